@@ -1,0 +1,11 @@
+-- The writer has taken a first part, and the rest is to come.
+use Rattle.std.proofs.Common.{◌≡◌, ◌++◌, List, ℕ, length}
+use Rattle.std.specs.Io.KnownBytes.{Appends}
+use Rattle.outside_io.proofs.stdio.write_through.Given as goal
+
+abbrev pub invariant-loop-rest : goal.invariant-loop-rest
+invariant-loop-rest g l = (front : List ℕ) × (front ++ l.rest ≡ l.bytes)
+    × Appends (g.W.Write.contents l.fn.writer) (g.W.Write.contents l.writer) front
+
+abbrev pub decreases-loop-rest : goal.decreases-loop-rest
+decreases-loop-rest g l = length l.rest

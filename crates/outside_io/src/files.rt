@@ -1,0 +1,118 @@
+ghost use Rattle.std.specs.Prelude.{◌≡◌, ◌<◌, ◌≤◌, length, IfOk, None};
+ghost use Rattle.outside_io.specs.Counts.{Rose, RisesBy};
+ghost use Rattle.outside_io.specs.Reading.{OnAbsent, IfTooLong, OnFailed};
+ghost use Rattle.outside_io.specs.Tally.{IsZero, Tallied};
+
+use crate::faults::ShelfFault;
+use crate::shelves::Shelf;
+use crate::tally::ShelfCounts;
+use items::Items;
+use std::alloc::Global;
+use std::fs;
+use std::io::{ErrorKind, Read};
+use std::rt::Files;
+
+/// How many bytes one call of the system reads at most.
+const PIECE: usize = 16_384;
+
+/// A shelf of the files in the current folder. It tells nothing of what they hold.
+///
+/// A file that isn't found is an absence, one with more bytes than the limit an excess, and any
+/// other failure a fault.
+#[derive(Drop)]
+pub struct FileShelf<'a, R> {
+    rt: &'a R,
+    counts: ShelfCounts,
+}
+
+impl<'a, R: Files> FileShelf<'a, R> {
+    /// A shelf over a runtime, with all counts at 0.
+    pub fn make(rt: &'a R) -> FileShelf<'a, R>
+        ensures { IsZero result.counts }
+    {
+        FileShelf {
+            rt,
+            counts: ShelfCounts::zero(),
+        }
+    }
+}
+
+/// The rest of a reader, of which there may be `limit` bytes at most. It stops once it has read more.
+fn read_within<F: Read>(alloc: Global, reader: &mut F, limit: u64) -> Result<Items<u8>, ShelfFault>
+    ensures within { IfOk result (λ bytes. length bytes ≤ limit) }
+    ensures excess { IfTooLong result (λ count. limit < count) }
+    ensures present { OnAbsent result ⊥ }
+{
+    let mut piece = [0u8; PIECE];
+    let mut bytes = Vec::new(alloc);
+    while bytes.len() as u64 <= limit {
+        match reader.read(&mut piece) {
+            Ok(0) => return Ok(Items::from_vec(bytes)),
+            Ok(count) => bytes.extend_from_slice(&piece[..count])?,
+            Err(_) => return Err(ShelfFault::Failed),
+        }
+    }
+    Err(ShelfFault::TooLong {
+        count: bytes.len() as u64,
+    })
+}
+
+/// The bytes of a file of the current folder.
+fn read_file<R: Files>(
+    rt: &R,
+    alloc: Global,
+    name: &str,
+    limit: u64,
+) -> Result<Items<u8>, ShelfFault>
+    ensures within { IfOk result (λ bytes. length bytes ≤ limit) }
+    ensures excess { IfTooLong result (λ count. limit < count) }
+{
+    match fs::open(rt, name) {
+        Ok(mut file) => read_within(alloc, &mut file, limit),
+        Err(error) if error.kind() == ErrorKind::NotFound => Err(ShelfFault::Absent),
+        Err(_) => Err(ShelfFault::Failed),
+    }
+}
+
+impl<'a, R: Files> Shelf for FileShelf<'a, R> {
+    ghost files = { λ _. None };
+
+    ghost calls = { λ shelf. shelf.counts.calls.times };
+
+    ghost absences = { λ shelf. shelf.counts.absences.times };
+
+    ghost excesses = { λ shelf. shelf.counts.excesses.times };
+
+    ghost faults = { λ shelf. shelf.counts.faults.times };
+
+    fn read(&mut self, alloc: Global, name: &str, limit: u64) -> Result<Items<u8>, ShelfFault>
+        ensures called { RisesBy 1 self.old.counts.calls.times self.new.counts.calls.times }
+        ensures absences { self.old.counts.absences.times ≤ self.new.counts.absences.times }
+        ensures excesses { self.old.counts.excesses.times ≤ self.new.counts.excesses.times }
+        ensures faults { self.old.counts.faults.times ≤ self.new.counts.faults.times }
+        ensures within { IfOk result (λ bytes. length bytes ≤ limit) }
+        ensures absent { OnAbsent result
+            (Rose self.old.counts.absences.times self.new.counts.absences.times) }
+        ensures too_long { IfTooLong result (λ count. (limit < count)
+            × Rose self.old.counts.excesses.times self.new.counts.excesses.times) }
+        ensures failed { OnFailed result
+            (Rose self.old.counts.faults.times self.new.counts.faults.times) }
+        // Each count rises exactly where it should.
+        ensures counts { Tallied result self.old.counts self.new.counts }
+    {
+        self.counts.calls.rise();
+        let answer = read_file(self.rt, alloc, name, limit);
+        self.counts.blame(&answer);
+        answer
+    }
+
+    ghost names_differ = { λ _. tt };
+
+    ghost calls_fit = { λ shelf. shelf.counts.calls.fits };
+
+    ghost absences_fit = { λ shelf. shelf.counts.absences.fits };
+
+    ghost excesses_fit = { λ shelf. shelf.counts.excesses.fits };
+
+    ghost faults_fit = { λ shelf. shelf.counts.faults.fits };
+}
