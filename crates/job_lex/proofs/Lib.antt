@@ -1,0 +1,5 @@
+pub mod Bytes
+pub mod Gaps
+pub mod Adjoining
+pub mod Once
+pub mod Neighbours
