@@ -1,0 +1,10 @@
+pub mod Entries
+pub mod FixWords
+pub mod LigWords
+pub mod Answering
+pub mod Loops
+pub mod CharWords
+pub mod CharTables
+pub mod Parts
+pub mod WholeFont
+pub mod OneFont

@@ -1,0 +1,12 @@
+pub mod Ranges
+pub mod FaultNumbers
+pub mod Words
+pub mod Lengths
+pub mod Entries
+pub mod Sizes
+pub mod Characters
+pub mod Ligatures
+pub mod Checks
+pub mod Layout
+pub mod Font
+pub mod Rows
