@@ -1,0 +1,9 @@
+pub mod AnswerLemmas
+pub mod CoverLemmas
+pub mod EndLemmas
+pub mod KernLemmas
+pub mod MoveLemmas
+pub mod PlainLemmas
+pub mod StepLemmas
+pub mod SymbolLemmas
+pub mod WalkLemmas

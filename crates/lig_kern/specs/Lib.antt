@@ -1,0 +1,5 @@
+pub mod Symbols
+pub mod Programs
+pub mod Rewriting
+pub mod Running
+pub mod Covering
