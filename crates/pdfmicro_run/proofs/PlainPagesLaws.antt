@@ -1,0 +1,74 @@
+-- The pages of a galley are plain, and can be written.
+use Rattle.std.proofs.Common.{◌≡◌, ℕ, suc, ◌≤◌, List, [], ◌∷◌, ◌++◌, length, map, refl, ap, arith, ℤ, pos, ◌+ℤ◌, ◌≤ℤ◌, append-nil}
+use Rattle.std.proofs.lemmas.Int.{ints, fold-int_max_bounds}
+use Rattle.std.specs.List.{All, AllByRecursion}
+use Rattle.std.proofs.lemmas.List.Elements.{All-from_recursion}
+use Rattle.pdfmicro_run.specs.declared.sizes.Sizes.{Sizes}
+use Rattle.pdfmicro_run.specs.declared.pages.FontRow.{FontRow}
+use Rattle.pdfmicro_run.specs.Dvi.{row_of, instance_name}
+use Rattle.pdfmicro_run.specs.Galley.{size_at, glyphs_from, greatest_size, line_of, page_of, InMeasure, IsShort}
+use Rattle.pdfmicro_run.specs.PlainJob.{IsText}
+use Rattle.pdfmicro_run.specs.PlainPages.{base, Adjoin, IsPlainPage}
+use Rattle.pdfmicro_run.specs.Writable.{IsPlace, IsDefinable, IsGlyphWritable, IsLineWritable, IsWritable}
+
+length-glyphs_from : (sizes : Sizes) (x : ℤ) (text : List ℕ) → length (glyphs_from sizes x text) ≡ length text
+length-glyphs_from sizes x [] = refl
+length-glyphs_from sizes x (code ∷ codes) = ap suc (length-glyphs_from sizes (x +ℤ size_at sizes.widths code) codes)
+
+adjoin : (sizes : Sizes) (x : ℤ) (text : List ℕ) → Adjoin x (glyphs_from sizes x text)
+adjoin sizes x [] = tt
+adjoin sizes x (code ∷ codes) = (refl, refl, adjoin sizes (x +ℤ size_at sizes.widths code) codes)
+
+pub plain_page : (sizes : Sizes) (hsize : ℤ) (text : List ℕ) → length text ≤ 16000 → IsPlainPage (page_of sizes hsize text)
+unfolding page_of line_of
+plain_page sizes hsize text few = record {
+  line = line_of sizes hsize text;
+  one = refl;
+  few = omega (arith, length-glyphs_from sizes (pos 0) text);
+  adjoin = adjoin sizes (pos 0) text;
+}
+
+pub plain_pages : (sizes : Sizes) (hsize : ℤ) (texts : List (List ℕ)) → AllByRecursion IsText texts → AllByRecursion IsPlainPage (map (page_of sizes hsize) texts)
+plain_pages sizes hsize [] h = tt
+plain_pages sizes hsize (text ∷ texts) h = (plain_page sizes hsize text h.0.1, plain_pages sizes hsize texts h.1)
+
+-- a place within the width is a place on a page
+in_width : (hsize z : ℤ) → hsize ≤ℤ pos 1073741823 → pos 0 ≤ℤ z → z ≤ℤ hsize → IsPlace z
+in_width hsize z wide low high = record { low = omega (arith, ints); high = omega (arith, ints) }
+
+base_definable : (row : FontRow) → length row.name ≤ 40 → IsDefinable (row ∷ []) base
+unfolding row_of instance_name
+base_definable row few =
+    let same : length (row.name ++ []) ≡ length row.name = ap length (append-nil row.name) in
+    record { has_row = omega arith; name = omega arith }
+
+glyphs_writable : (row : FontRow) (sizes : Sizes) (hsize x : ℤ) (text : List ℕ) → length row.name ≤ 40 → hsize ≤ℤ pos 1073741823 → AllByRecursion (InMeasure hsize) (glyphs_from sizes x text) → AllByRecursion (IsGlyphWritable (row ∷ [])) (glyphs_from sizes x text)
+glyphs_writable row sizes hsize x [] few wide h = tt
+glyphs_writable row sizes hsize x (code ∷ codes) few wide h = (
+  record {
+    left = in_width hsize x wide h.0.left_low h.0.left_high;
+    right = in_width hsize (x +ℤ size_at sizes.widths code) wide h.0.right_low h.0.right_high;
+    font = base_definable row few;
+  },
+  glyphs_writable row sizes hsize (x +ℤ size_at sizes.widths code) codes few wide h.1,
+)
+
+pub page_writable : (row : FontRow) (sizes : Sizes) (hsize : ℤ) (text : List ℕ) → length row.name ≤ 40 → hsize ≤ℤ pos 1073741823 → pos 0 ≤ℤ greatest_size sizes.heights text → IsShort sizes hsize text → IsWritable (row ∷ []) (page_of sizes hsize text)
+unfolding page_of line_of
+page_writable row sizes hsize text few wide natural short = record {
+  baselines = refl;
+  on_lines = All-from_recursion IsPlace (greatest_size sizes.heights text ∷ []) (record { low = omega (arith, ints); high = short.height }, tt);
+  glyphs = All-from_recursion (IsLineWritable (row ∷ [])) (line_of sizes hsize text ∷ [])
+      (All-from_recursion (IsGlyphWritable (row ∷ [])) (glyphs_from sizes (pos 0) text) (glyphs_writable row sizes hsize (pos 0) text few wide short.glyphs), tt);
+}
+
+natural_height : (sizes : Sizes) (text : List ℕ) → pos 0 ≤ℤ greatest_size sizes.heights text
+natural_height sizes text = (fold-int_max_bounds (pos 0) (map (size_at sizes.heights) text) (greatest_size sizes.heights text) refl).0
+
+by_recursion : (row : FontRow) (sizes : Sizes) (hsize : ℤ) (texts : List (List ℕ)) → length row.name ≤ 40 → hsize ≤ℤ pos 1073741823 → AllByRecursion (IsShort sizes hsize) texts → AllByRecursion (IsWritable (row ∷ [])) (map (page_of sizes hsize) texts)
+by_recursion row sizes hsize [] few wide h = tt
+by_recursion row sizes hsize (text ∷ texts) few wide h =
+    (page_writable row sizes hsize text few wide (natural_height sizes text) h.0, by_recursion row sizes hsize texts few wide h.1)
+
+pub pages_writable : (row : FontRow) (sizes : Sizes) (hsize : ℤ) (texts : List (List ℕ)) → length row.name ≤ 40 → hsize ≤ℤ pos 1073741823 → AllByRecursion (IsShort sizes hsize) texts → All (IsWritable (row ∷ [])) (map (page_of sizes hsize) texts)
+pages_writable row sizes hsize texts few wide h = All-from_recursion (IsWritable (row ∷ [])) _ (by_recursion row sizes hsize texts few wide h)

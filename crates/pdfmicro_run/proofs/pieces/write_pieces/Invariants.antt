@@ -1,0 +1,15 @@
+use Rattle.std.proofs.Common.{◌≤◌, length}
+use Rattle.pdfmicro_run.proofs.PiecesLaws.{Fronts}
+use Rattle.pdfmicro_run.proofs.pieces.write_pieces.Given as goal
+
+-- a front was written, in as many calls as it has pieces
+abbrev pub invariant-loop-rest : goal.invariant-loop-rest
+invariant-loop-rest g l =
+    let sink = g.O.Sink in
+    record {
+      written : Fronts l.bytes l.rest (record { written = sink.written l.fn.out; calls = sink.calls l.fn.out }) (record { written = sink.written l.out; calls = sink.calls l.out });
+      faults : sink.faults l.fn.out ≤ sink.faults l.out;
+    }
+
+abbrev pub decreases-loop-rest : goal.decreases-loop-rest
+decreases-loop-rest g l = length l.rest

@@ -1,0 +1,14 @@
+pub mod Bytes
+pub mod Dvi
+pub mod Galley
+pub mod GalleyReading
+pub mod GalleysReading
+pub mod PlainJob
+pub mod PlainPages
+pub mod PlainReading
+pub mod Run
+pub mod Status
+pub mod Uses
+pub mod Words
+pub mod Worked
+pub mod Writable
