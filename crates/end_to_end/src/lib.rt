@@ -1,0 +1,13 @@
+//! Whole runs, over files and outputs in memory: jobs with their answers, and an outside that fails.
+//!
+//! The crate has tests alone. What they expect was worked out by hand from the formats.
+#![tactic(auto)]
+
+#[cfg(test)]
+mod fonts;
+#[cfg(test)]
+mod jobs;
+#[cfg(test)]
+mod outside;
+#[cfg(test)]
+mod runs;

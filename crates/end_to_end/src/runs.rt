@@ -1,0 +1,99 @@
+//! One run over a shelf and an output in memory.
+ghost use Rattle.std.specs.Prelude.{IfOk};
+ghost use Rattle.outside_io.specs.Reading.{NamesDiffer};
+
+use items::Items;
+use outside_io::{MemShelf, MemSink, NoGate};
+use pdfmicro_run::{Answer, run_micro};
+use std::alloc::{AllocError, Global};
+use std::test::Fail;
+use std::thread::Threads;
+
+/// What fails in a run: reads and writes by their numbers, from 1, and the room for the output.
+#[derive(Drop)]
+pub struct Failing<'a> {
+    pub reads: &'a [u64],
+    pub writes: &'a [u64],
+    pub room: u64,
+}
+
+/// A run's status, answer and output.
+#[derive(Drop)]
+pub struct Run {
+    pub status: u8,
+    pub answer: Answer,
+    pub written: Vec<u8>,
+}
+
+/// A list of two files, the job and the font `tiny10`.
+fn two_files(
+    alloc: Global,
+    job: &[u8],
+    font: &[u8],
+) -> Result<Items<(Items<u8>, Items<u8>)>, AllocError>
+    ensures { IfOk result (λ files. NamesDiffer files) }
+{
+    let mut files = Items::new(alloc);
+    let name = Items::from_slice(alloc, b"j")?;
+    let bytes = Items::from_slice(alloc, job)?;
+    if files.push((name, bytes)).is_err() {
+        return Err(AllocError);
+    }
+    let name = Items::from_slice(alloc, b"tiny10.tfm")?;
+    let bytes = Items::from_slice(alloc, font)?;
+    if files.push((name, bytes)).is_err() {
+        return Err(AllocError);
+    }
+    Ok(files)
+}
+
+/// Words as texts.
+fn texts(alloc: Global, words: &[&str]) -> Result<Vec<String>, AllocError> {
+    let mut texts = Vec::new(alloc);
+    for word in words {
+        texts.push(String::from_str(alloc, word)?)?;
+    }
+    Ok(texts)
+}
+
+/// Runs the words over a shelf of the two files.
+pub fn run_words<R: Threads + Sync>(
+    rt: &R,
+    alloc: Global,
+    words: &[&str],
+    job: &[u8],
+    font: &[u8],
+    failing: &Failing,
+) -> Result<Run, Fail> {
+    let words = texts(alloc, words)?;
+    let reads = Items::from_slice(alloc, failing.reads)?;
+    let writes = Items::from_slice(alloc, failing.writes)?;
+    let mut shelf = MemShelf::make(two_files(alloc, job, font)?, reads);
+    let mut out = MemSink::make(alloc, writes);
+    out.reserve(failing.room)?;
+    let mut talk = MemSink::make(alloc, Items::new(alloc));
+    let end = run_micro(
+        rt,
+        alloc,
+        words.as_slice(),
+        &mut shelf,
+        &mut out,
+        &mut talk,
+        &NoGate,
+    );
+    Ok(Run {
+        status: end.status,
+        answer: end.answer,
+        written: out.written().to_vec(alloc)?,
+    })
+}
+
+/// Sets the job in the font, with room enough and nothing that fails.
+pub fn set<R: Threads + Sync>(rt: &R, alloc: Global, job: &[u8], font: &[u8]) -> Result<Run, Fail> {
+    let failing = Failing {
+        reads: &[],
+        writes: &[],
+        room: 100_000,
+    };
+    run_words(rt, alloc, &["pdfmicro", "set", "j"], job, font, &failing)
+}
