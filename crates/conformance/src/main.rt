@@ -4,6 +4,13 @@
 //! agree with it. A line of an unknown kind or out of form is answered `unknown`.
 #![tactic(auto)]
 
+mod fonts;
+mod hyphenation;
+mod ligatures;
+mod numbers;
+mod tfm;
+mod tokens;
+
 use std::alloc::{AllocError, Global};
 use std::io;
 use std::io::{BufRead, BufReader};
@@ -11,11 +18,17 @@ use std::rt::Files;
 
 /// The answer to a line, or None where the line is of an unknown kind or out of form. Fonts are read
 /// from the current folder.
-fn answer<R: Files>(_rt: &R, _alloc: Global, line: &str) -> Result<Option<String>, AllocError> {
-    let Some((kind, _left)) = line.split_once(' ') else {
+fn answer<R: Files>(rt: &R, alloc: Global, line: &str) -> Result<Option<String>, AllocError> {
+    let Some((kind, left)) = line.split_once(' ') else {
         return Ok(None);
     };
     match kind {
+        "fonts" => fonts::answer(rt, alloc, left),
+        "hyphenation" => hyphenation::answer(alloc, left),
+        "ligatures" => ligatures::answer(rt, alloc, left),
+        "numbers" => numbers::answer(alloc, left),
+        "tfm" => tfm::answer(rt, alloc, left),
+        "tokens" => tokens::answer(alloc, left),
         _ => Ok(None),
     }
 }
