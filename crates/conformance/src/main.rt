@@ -6,6 +6,7 @@
 
 mod fonts;
 mod hyphenation;
+mod jobs;
 mod ligatures;
 mod numbers;
 mod tfm;
@@ -25,6 +26,7 @@ fn answer<R: Files>(rt: &R, alloc: Global, line: &str) -> Result<Option<String>,
     match kind {
         "fonts" => fonts::answer(rt, alloc, left),
         "hyphenation" => hyphenation::answer(alloc, left),
+        "jobs" => jobs::answer(alloc, left),
         "ligatures" => ligatures::answer(rt, alloc, left),
         "numbers" => numbers::answer(alloc, left),
         "tfm" => tfm::answer(rt, alloc, left),

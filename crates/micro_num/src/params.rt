@@ -8,7 +8,7 @@ const POINT: Sp = 65536;
 
 /// The parameters of a paragraph, each named as the word that assigns it. Penalties, demerits and
 /// levels are whole numbers, lengths are in scaled points.
-#[derive(Clone, Copy, Debug)]
+#[derive(Clone, Copy, Debug, PartialEq, Eq)]
 pub struct Params {
     pub pretolerance: i32,
     pub tolerance: i32,

@@ -1,0 +1,9 @@
+pub mod Bounds
+pub mod Digits
+pub mod FontChanges
+pub mod FontsFitting
+pub mod JobFitting
+pub mod JobOnce
+pub mod Keeping
+pub mod PartsFitting
+pub mod Repeats

@@ -1,0 +1,12 @@
+use Rattle.std.proofs.Common.{◌≡◌, ◌≤◌, length}
+use Rattle.job_text.specs.Hyphenation.{behind_run}
+use Rattle.job_text.proofs.patterns.behind_run.Given as goal
+
+abbrev pub invariant-loop-token : goal.invariant-loop-token
+invariant-loop-token l = record {
+  value : behind_run l.left ≡ behind_run l.rest;
+  within : length l.left ≤ length l.rest;
+}
+
+abbrev pub decreases-loop-token : goal.decreases-loop-token
+decreases-loop-token l = length l.left

@@ -1,0 +1,87 @@
+-- The tables and the parameters, and what assigns them.
+use Rattle.std.specs.Prelude.{ℕ, ◌+◌, ℤ, Bool, nat_le, ◌&&◌, List, map, slice_set, Ok, if◌then◌else◌}
+use Rattle.std.specs.List.{range_with_len}
+use Rattle.micro_num.specs.declared.tables.Tables.{Tables}
+use Rattle.micro_num.specs.declared.params.Params.{Params}
+use Rattle.micro_num.specs.declared.glue.Glue.{Glue}
+use Rattle.job_text.specs.declared.token.Token.{Token}
+use Rattle.job_text.specs.declared.word.IntegerParameter.{IntegerParameter}
+use Rattle.job_text.specs.declared.word.IntegerParameter.TheVariants.{Pretolerance, Tolerance, Linepenalty, Hyphenpenalty, Exhyphenpenalty, Adjdemerits, Doublehyphendemerits, Finalhyphendemerits, Lefthyphenmin, Righthyphenmin, Pdfprotrudechars, Pdfadjustspacing}
+use Rattle.job_text.specs.declared.word.DimensionParameter.{DimensionParameter}
+use Rattle.job_text.specs.declared.word.DimensionParameter.TheVariants.{Hsize, Parindent, Lineskiplimit, Emergencystretch}
+use Rattle.job_text.specs.declared.word.GlueParameter.{GlueParameter}
+use Rattle.job_text.specs.declared.word.GlueParameter.TheVariants.{Baselineskip, Lineskip, Parfillskip, Leftskip, Rightskip, Spaceskip, Xspaceskip}
+use Rattle.job_text.specs.Reading.{Reading, ◌>>=◌, equals}
+use Rattle.job_text.specs.Numbers.{number, natural}
+use Rattle.job_text.specs.Lengths.{dimension, glue}
+
+abbrev pub is_upper : ℕ → Bool
+is_upper code = nat_le 65 code && nat_le code 90
+
+abbrev pub is_lower : ℕ → Bool
+is_lower code = nat_le 97 code && nat_le code 122
+
+-- a capital has the space factor 999, all else 1000
+abbrev pub plain_factor : ℕ → ℕ
+plain_factor code = if is_upper code then 999 else 1000
+
+-- the letters A to Z and a to z have a lower case
+abbrev pub plain_lower : ℕ → ℕ
+plain_lower code = if is_upper code then code + 32 else (if is_lower code then code else 0)
+
+-- the tables of plain TeX
+abbrev pub plain_tables : Tables
+plain_tables = record { sfcode = map plain_factor (range_with_len 0 256); lccode = map plain_lower (range_with_len 0 256) }
+
+-- a number 0 to 255, equals, and a number 0 to 32767
+unfoldable pub space_factor : ℕ → Tables → List Token → Reading Tables
+space_factor end tables toks =
+    natural 0 255 end toks >>= λ code.
+    natural 0 32767 end (equals code.1) >>= λ factor.
+    Ok (record { sfcode = slice_set tables.sfcode code.0 factor.0; lccode = tables.lccode }, factor.1)
+
+-- a number 0 to 255, equals, and a number 0 to 255
+unfoldable pub lower_case : ℕ → Tables → List Token → Reading Tables
+lower_case end tables toks =
+    natural 0 255 end toks >>= λ code.
+    natural 0 255 end (equals code.1) >>= λ lower.
+    Ok (record { sfcode = tables.sfcode; lccode = slice_set tables.lccode code.0 lower.0 }, lower.1)
+
+abbrev pub with_integer : IntegerParameter → ℤ → Params → Params
+with_integer Pretolerance value params = record params { pretolerance = value }
+with_integer Tolerance value params = record params { tolerance = value }
+with_integer Linepenalty value params = record params { linepenalty = value }
+with_integer Hyphenpenalty value params = record params { hyphenpenalty = value }
+with_integer Exhyphenpenalty value params = record params { exhyphenpenalty = value }
+with_integer Adjdemerits value params = record params { adjdemerits = value }
+with_integer Doublehyphendemerits value params = record params { doublehyphendemerits = value }
+with_integer Finalhyphendemerits value params = record params { finalhyphendemerits = value }
+with_integer Lefthyphenmin value params = record params { lefthyphenmin = value }
+with_integer Righthyphenmin value params = record params { righthyphenmin = value }
+with_integer Pdfprotrudechars value params = record params { pdfprotrudechars = value }
+with_integer Pdfadjustspacing value params = record params { pdfadjustspacing = value }
+
+abbrev pub with_dimension : DimensionParameter → ℤ → Params → Params
+with_dimension Hsize value params = record params { hsize = value }
+with_dimension Parindent value params = record params { parindent = value }
+with_dimension Lineskiplimit value params = record params { lineskiplimit = value }
+with_dimension Emergencystretch value params = record params { emergencystretch = value }
+
+abbrev pub with_glue : GlueParameter → Glue → Params → Params
+with_glue Baselineskip value params = record params { baselineskip = value }
+with_glue Lineskip value params = record params { lineskip = value }
+with_glue Parfillskip value params = record params { parfillskip = value }
+with_glue Leftskip value params = record params { leftskip = value }
+with_glue Rightskip value params = record params { rightskip = value }
+with_glue Spaceskip value params = record params { spaceskip = value }
+with_glue Xspaceskip value params = record params { xspaceskip = value }
+
+-- equals and a value
+unfoldable pub assign_integer : ℕ → Params → IntegerParameter → List Token → Reading Params
+assign_integer end params parameter toks = number end (equals toks) >>= λ x. Ok (with_integer parameter x.0 params, x.1)
+
+unfoldable pub assign_dimension : ℕ → Params → DimensionParameter → List Token → Reading Params
+assign_dimension end params parameter toks = dimension end (equals toks) >>= λ x. Ok (with_dimension parameter x.0 params, x.1)
+
+unfoldable pub assign_glue : ℕ → Params → GlueParameter → List Token → Reading Params
+assign_glue end params parameter toks = glue end (equals toks) >>= λ x. Ok (with_glue parameter x.0 params, x.1)
