@@ -1,8 +1,11 @@
 //! Jobs and their answers.
 use crate::fonts::{ligature10, tiny10};
 use crate::runs::{Failing, run_words, set};
+use job_text::JobFaultKind;
 use pdfmicro_run::Answer;
+use std::alloc::Global;
 use std::test::Fail;
+use std::thread::Threads;
 
 /// Three letters on a line of 100pt.
 const THREE_LETTERS: &[u8] = b"\\font\\f=tiny10 \\f\n\\hsize=100pt\n\\noindent abc\n";
@@ -28,84 +31,198 @@ fn three_letters_are_172_bytes(rt: HostRuntime) -> Result<(), Fail> {
     Ok(())
 }
 
+/// A job, what it is answered, and how many bytes are written.
+type Case = (&'static [u8], Answer, usize);
+
+/// The number of the first job that ends otherwise than is told, set in the font `tiny10`.
+fn first_other<R: Threads + Sync>(
+    rt: &R,
+    alloc: Global,
+    cases: &[Case],
+) -> Result<Option<usize>, Fail> {
+    let font = tiny10(alloc)?;
+    for (number, (job, answer, length)) in cases.iter().enumerate() {
+        let run = set(rt, alloc, job, font.as_slice())?;
+        let same = run.answer == *answer
+            && run.status == answer.status()
+            && run.written.len() == *length;
+        if !same {
+            return Ok(Some(number));
+        }
+    }
+    Ok(None)
+}
+
 #[test]
-fn each_job_has_its_answer(rt: HostRuntime) -> Result<(), Fail> {
-    let font = tiny10(rt.alloc())?;
-    let jobs: [(&[u8], Answer, u8, usize); 12] = [
-        (
-            b"\\font\\f=tiny10 \\f\n\\hsize=100pt\n",
-            Answer::Done,
-            0,
-            72,
-        ),
+fn plain_jobs_are_set(rt: HostRuntime) -> Result<(), Fail> {
+    let cases: &[Case] = &[
+        (b"\\font\\f=tiny10 \\f\n\\hsize=100pt\n", Answer::Done, 72),
+        (b"\\font\\f=tiny10 \\hsize=0pt", Answer::Done, 72),
         (
             b"\\font\\f=tiny10 \\f\n\\hsize=15pt\n\\noindent abc\n",
             Answer::Done,
-            0,
             172,
         ),
         (
+            b"\\font\\f=tiny10 \\f\n\\noindent abc\n\n\n",
+            Answer::Done,
+            172,
+        ),
+        (
+            b"\\font\\f=tiny10 \\f \\noindent \\char97 !c\\par\\bye",
+            Answer::Done,
+            172,
+        ),
+        (
+            b"\\font\\f=tiny10 \\hyphenchar\\f=-1 \\f\\noindent a-b",
+            Answer::Done,
+            172,
+        ),
+        (
+            b"\\font\\f=tiny10 \\f\\hsize=15pt\\noindent abc\n\n\\hsize=1in\\noindent abc\n",
+            Answer::Done,
+            228,
+        ),
+    ];
+    assert_eq!(rt; first_other(&rt, rt.alloc(), cases)?, None);
+    Ok(())
+}
+
+#[test]
+fn a_line_that_is_too_long_is_told(rt: HostRuntime) -> Result<(), Fail> {
+    let cases: &[Case] = &[
+        (
             b"\\font\\f=tiny10 \\f\n\\hsize=14pt\n\\noindent abc\n",
             Answer::LongParagraph { paragraph: 1 },
-            10,
             0,
         ),
         (
             b"\\font\\f=tiny10 \\f\n\\hsize=14pt\n\\noindent ab\n\n\\noindent abc\n",
             Answer::LongParagraph { paragraph: 2 },
-            10,
             0,
         ),
         (
-            b"\\font\\f=tiny10 \\f\n\\hsize=100pt\n\\noindent a c\n",
-            Answer::NotPlain { file: 0 },
-            9,
-            0,
-        ),
-        (b"", Answer::NotPlain { file: 0 }, 9, 0),
-        (
-            b"\\font\\f=tiny10 \\f\n\\hsize=0pt\n",
-            Answer::NotPlain { file: 0 },
-            9,
-            0,
-        ),
-        (
-            b"\\font\\f=tiny10 \\f\n\\hsize=010pt\n",
-            Answer::NotPlain { file: 0 },
-            9,
-            0,
-        ),
-        (
-            b"\\font\\f=tiny10 \\f\n\\hsize=16383pt\n",
-            Answer::Done,
-            0,
-            72,
-        ),
-        (
-            b"\\font\\f=tiny10 \\f\n\\hsize=16384pt\n",
-            Answer::NotPlain { file: 0 },
-            9,
-            0,
-        ),
-        (
-            b"\\font\\f=tiny10 \\f\n\\hsize=100pt\n\\noindent abc\n\n",
-            Answer::NotPlain { file: 0 },
-            9,
-            0,
-        ),
-        (
-            b"\\font\\f=other \\f\n\\hsize=100pt\n",
-            Answer::Absent { file: 1 },
-            3,
+            b"\\font\\f=tiny10 \\f\\noindent abc\n\n\\hsize=14pt\\noindent abc\n",
+            Answer::LongParagraph { paragraph: 2 },
             0,
         ),
     ];
-    for (job, answer, status, length) in jobs {
-        let run = set(&rt, rt.alloc(), job, font.as_slice())?;
-        assert_eq!(rt; run.answer, answer);
-        assert_eq!(rt; run.status, status);
-        assert_eq!(rt; run.written.len(), length);
-    }
+    assert_eq!(rt; first_other(&rt, rt.alloc(), cases)?, None);
+    Ok(())
+}
+
+#[test]
+fn other_fonts_and_parameters_are_not_plain(rt: HostRuntime) -> Result<(), Fail> {
+    let not_plain = Answer::NotPlain { file: 0 };
+    let cases: &[Case] = &[
+        (b"", not_plain, 0),
+        (
+            b"\\font\\f=tiny10 \\font\\g=tiny10 \\f\\noindent abc",
+            not_plain,
+            0,
+        ),
+        (b"\\font\\f=tiny10 at 10pt \\f\\noindent abc", not_plain, 0),
+        (
+            b"\\font\\f=tiny10 scaled 1000 \\f\\noindent abc",
+            not_plain,
+            0,
+        ),
+        (
+            b"\\font\\f=tiny10 \\pdffontexpand\\f 20 20 1 \\f\\noindent abc",
+            not_plain,
+            0,
+        ),
+        (b"\\font\\f=tiny10 \\f abc", not_plain, 0),
+        (
+            b"\\font\\f=tiny10 \\f\\hsize=0pt\\noindent abc",
+            not_plain,
+            0,
+        ),
+        (
+            b"\\font\\f=tiny10 \\f\\hsize=-1pt\\noindent abc",
+            not_plain,
+            0,
+        ),
+        (
+            b"\\font\\f=tiny10 \\f\\parindent=0pt\\noindent abc",
+            not_plain,
+            0,
+        ),
+        (
+            b"\\font\\f=tiny10 \\f\\tolerance=201 \\noindent abc",
+            not_plain,
+            0,
+        ),
+        (
+            b"\\font\\f=tiny10 \\f\\rightskip=0pt plus 1sp\\noindent abc",
+            not_plain,
+            0,
+        ),
+    ];
+    assert_eq!(rt; first_other(&rt, rt.alloc(), cases)?, None);
+    Ok(())
+}
+
+#[test]
+fn other_texts_are_not_plain(rt: HostRuntime) -> Result<(), Fail> {
+    let not_plain = Answer::NotPlain { file: 0 };
+    let cases: &[Case] = &[
+        (
+            b"\\font\\f=tiny10 \\f\n\\hsize=100pt\n\\noindent a c\n",
+            not_plain,
+            0,
+        ),
+        (b"\\font\\f=tiny10 \\f\\noindent\\par", not_plain, 0),
+        (b"\\font\\f=tiny10 \\noindent\\par", not_plain, 0),
+        (b"\\font\\f=tiny10 \\f\\noindent a-b", not_plain, 0),
+        (
+            b"\\font\\f=tiny10 \\hyphenchar\\f=98 \\f\\noindent abc",
+            not_plain,
+            0,
+        ),
+        (b"\\font\\f=tiny10 \\f\\noindent a~b", not_plain, 0),
+        (b"\\font\\f=tiny10 \\f\\noindent a\\kern1pt b", not_plain, 0),
+        (b"\\font\\f=tiny10 \\f\\noindent a\\f b", not_plain, 0),
+        (b"\\font\\f=tiny10 \\f\\noindent abc \\ ", not_plain, 0),
+    ];
+    assert_eq!(rt; first_other(&rt, rt.alloc(), cases)?, None);
+    Ok(())
+}
+
+#[test]
+fn a_fault_of_the_job_is_told_with_its_place(rt: HostRuntime) -> Result<(), Fail> {
+    let cases: &[Case] = &[
+        (b"\\foo", fault(0, JobFaultKind::UnknownWord), 0),
+        (b"abc", fault(0, JobFaultKind::NoFont), 0),
+        (
+            b"\\font\\f=other \\f\\noindent {",
+            fault(26, JobFaultKind::UnclosedGroup),
+            0,
+        ),
+        (
+            b"\\font\\f=tiny10 \\f\n\\hsize=16384pt\n",
+            fault(25, JobFaultKind::DimensionTooLarge),
+            0,
+        ),
+        (b"\\noindent a\x7f", fault(11, JobFaultKind::BadByte), 0),
+    ];
+    assert_eq!(rt; first_other(&rt, rt.alloc(), cases)?, None);
+    Ok(())
+}
+
+/// The answer to a job with such a fault at such a place.
+fn fault(offset: u32, kind: JobFaultKind) -> Answer {
+    Answer::Job { offset, kind }
+}
+
+#[test]
+fn a_font_that_is_not_there_is_told(rt: HostRuntime) -> Result<(), Fail> {
+    let cases: &[Case] = &[(
+        b"\\font\\f=other \\f\n\\hsize=100pt\n",
+        Answer::Absent { file: 1 },
+        0,
+    )];
+    assert_eq!(rt; first_other(&rt, rt.alloc(), cases)?, None);
     Ok(())
 }
 

@@ -2,6 +2,8 @@ pub mod DefinableCells
 pub mod DefinedFonts
 pub mod Determined
 pub mod DeterminedFaults
+pub mod DeterminedJobs
+pub mod Elements
 pub mod GalleyGlyphs
 pub mod GalleyPage
 pub mod OneReading
@@ -9,10 +11,9 @@ pub mod PageSteps
 pub mod PiecesLaws
 pub mod PlainLength
 pub mod PlainPagesLaws
-pub mod PlainTexts
-pub mod PlainViews
+pub mod PlainParams
+pub mod PlainJobs
 pub mod RunLaws
-pub mod Runs
 pub mod ScaledSizes
 pub mod ThreeLetters
 pub mod UsesLaws

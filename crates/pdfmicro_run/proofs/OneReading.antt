@@ -1,57 +1,29 @@
 -- What was read is determined: by the words the name, by the files the bytes, and by the bytes the job.
---     one_job, one_name, one_file     at most one of each
-use Rattle.std.proofs.Common.{◌≡◌, ℕ, ◌<◌, List, [], ◌∷◌, ◌++◌, length, get_or, codes, refl, sym, ◌∙◌, ap, subst, Some, ◌⊎◌, inl, inr}
-use Rattle.std.specs.List.{AllByRecursion}
+--     one_job, one_name, one_file, one_bytes, one_reading     at most one of each
+use Rattle.std.proofs.Common.{◌≡◌, ℕ, ◌<◌, List, [], ◌∷◌, length, get_or, codes, sym, ◌∙◌, ap, subst, Some, ◌⊎◌, inl, inr}
 use Rattle.std.proofs.lemmas.Bool.{cases_order}
 use Rattle.std.proofs.lemmas.List.{get_or_default}
 use Rattle.outside_io.specs.Reading.{NamesDiffer, HasFile}
-use Rattle.pdfmicro_run.specs.declared.bytes.Class.TheVariants as Class
-use Rattle.pdfmicro_run.specs.PlainJob.{PlainJob, AllOf, IsPlainJob, IsText, job_bytes, line_before, more_paragraphs, paragraphs}
-use Rattle.pdfmicro_run.specs.Bytes.{IsField}
-use Rattle.pdfmicro_run.specs.Run.{IsCommand, ReadsJob}
-use Rattle.pdfmicro_run.proofs.Runs.{field_unique}
-use Rattle.pdfmicro_run.proofs.PlainTexts.{line_unique}
+use Rattle.job_text.specs.declared.fault.JobFaultKind.{JobFaultKind}
+use Rattle.job_text.specs.Answers.{Said, IsJobOf, IsFaultAt}
+use Rattle.tfm_read.specs.declared.tfm.Tfm.{Tfm}
+use Rattle.tfm_read.specs.Font.{IsTfm}
+use Rattle.pdfmicro_run.specs.declared.plain_job.PlainJob.{PlainJob}
+use Rattle.pdfmicro_run.specs.PlainJob.{IsPlain, IsPlainJob}
+use Rattle.pdfmicro_run.specs.Run.{IsCommand, WasRead, ReadsJob}
+use Rattle.pdfmicro_run.proofs.PlainJobs.{plain_once}
 
--- what follows the first line
-after_name : PlainJob → List ℕ
-after_name job = codes "\\hsize=" ++ (job.digits ++ (codes "pt\n" ++ paragraphs job.texts))
+-- a file is at most one font, and spells at most one job or has one first fault
+pub record Laws : Type 0 where
+  pub font : (bytes : List ℕ) (a b : Tfm) → IsTfm bytes a → IsTfm bytes b → a ≡ b
+  pub job : (bytes : List ℕ) (a b : Said) → IsJobOf bytes a → IsJobOf bytes b → a ≡ b
+  pub fault : (bytes : List ℕ) (place other : ℕ) (kind another : JobFaultKind) → IsFaultAt bytes place kind → IsFaultAt bytes other another → (place ≡ other) × (kind ≡ another)
+  pub not_both : (bytes : List ℕ) (said : Said) (place : ℕ) (kind : JobFaultKind) → IsJobOf bytes said → IsFaultAt bytes place kind → ⊥
 
-name_field : (bytes : List ℕ) (job : PlainJob) → IsPlainJob bytes job → IsField (codes "\\font\\f=") Class.Name (codes " \\f\n") bytes job.name (after_name job)
-unfolding job_bytes after_name
-name_field bytes job plain = record { each = plain.name.2; spelled = plain.spelled }
-
-digits_field : (job : PlainJob) (rest : List ℕ) → AllOf Class.Digit job.digits → rest ≡ after_name job → IsField (codes "\\hsize=") Class.Digit (codes "pt\n") rest job.digits (paragraphs job.texts)
-unfolding after_name
-digits_field job rest each e = record { each = each; spelled = e }
-
-more_unique : (texts others : List (List ℕ)) → AllByRecursion IsText texts → AllByRecursion IsText others → more_paragraphs texts ≡ more_paragraphs others → texts ≡ others
-more_unique [] [] _ _ e = refl
-more_unique [] (u ∷ us) _ _ e = cc
-more_unique (t ∷ ts) [] _ _ e = cc
-more_unique (t ∷ ts) (u ∷ us) each each' e =
-    let lines : line_before t (more_paragraphs ts) ≡ line_before u (more_paragraphs us) = cc in
-    let parts = line_unique t (more_paragraphs ts) u (more_paragraphs us) each.0.2 each'.0.2 lines in
-    ap (λ z. z ∷ ts) parts.0 ∙ ap (λ z. u ∷ z) (more_unique ts us each.1 each'.1 parts.1)
-
-texts_unique : (texts others : List (List ℕ)) → AllByRecursion IsText texts → AllByRecursion IsText others → paragraphs texts ≡ paragraphs others → texts ≡ others
-unfolding line_before
-texts_unique [] [] _ _ e = refl
-texts_unique [] (u ∷ us) _ _ e = cc
-texts_unique (t ∷ ts) [] _ _ e = cc
-texts_unique (t ∷ ts) (u ∷ us) each each' e =
-    let parts = line_unique t (more_paragraphs ts) u (more_paragraphs us) each.0.2 each'.0.2 e in
-    ap (λ z. z ∷ ts) parts.0 ∙ ap (λ z. u ∷ z) (more_unique ts us each.1 each'.1 parts.1)
-
-job_of : List ℕ → List ℕ → List (List ℕ) → PlainJob
-job_of name digits texts = record { name = name; digits = digits; texts = texts }
-
-pub one_job : (bytes : List ℕ) (a b : PlainJob) → IsPlainJob bytes a → IsPlainJob bytes b → a ≡ b
-unfolding job_of
-one_job bytes a b p q =
-    let first = field_unique _ Class.Name _ bytes a.name (after_name a) b.name (after_name b) refl (name_field bytes a p) (name_field bytes b q) in
-    let second = field_unique _ Class.Digit _ (after_name a) a.digits (paragraphs a.texts) b.digits (paragraphs b.texts) refl (digits_field a (after_name a) p.points.1 refl) (digits_field b (after_name a) q.points.1 first.1) in
-    let texts = texts_unique a.texts b.texts p.texts.0 q.texts.0 second.1 in
-    ap (λ z. job_of z a.digits a.texts) first.0 ∙ ap (λ z. job_of b.name z a.texts) second.0 ∙ ap (job_of b.name b.digits) texts
+pub one_job : Laws → (bytes : List ℕ) (a b : PlainJob) → IsPlainJob bytes a → IsPlainJob bytes b → a ≡ b
+one_job laws bytes a b p q =
+    let P : Said → Type 0 = λ said. IsPlain said a in
+    plain_once q.said a b (subst P (laws.job bytes p.said q.said p.is_job q.is_job) p.plain) q.plain
 
 pub one_name : (words : List (List ℕ)) (a b : List ℕ) → IsCommand words a → IsCommand words b → a ≡ b
 one_name words a b (p, e) (q, f) = let same : p ∷ codes "set" ∷ a ∷ [] ≡ q ∷ codes "set" ∷ b ∷ [] = sym e ∙ f in cc
@@ -72,10 +44,16 @@ same_place files name a b i j differ hi hj e f (inr (inr after)) =
 pub one_file : (files : List (List ℕ × List ℕ)) (name a b : List ℕ) → NamesDiffer files → HasFile files name a → HasFile files name b → a ≡ b
 one_file files name a b differ (i, hi, e) (j, hj, f) = same_place files name a b i j differ hi hj e f (cases_order i j)
 
-pub one_reading : (files : List (List ℕ × List ℕ)) (words : List (List ℕ)) (a b : PlainJob) → NamesDiffer files → ReadsJob (Some files) words a → ReadsJob (Some files) words b → a ≡ b
-one_reading files words a b differ p q =
+-- the bytes of the job's file, of two readings
+pub one_bytes : (files : List (List ℕ × List ℕ)) (words : List (List ℕ)) (name bytes : List ℕ) (job : PlainJob) → NamesDiffer files → IsCommand words name → WasRead (Some files) name bytes → (read : ReadsJob (Some files) words job) → bytes ≡ read.bytes
+one_bytes files words name bytes job differ command was read =
+    let P : List ℕ → Type 0 = λ n. HasFile files n bytes in
+    one_file files read.name bytes read.bytes differ (subst P (one_name words name read.name command read.command) was.told) read.read.told
+
+pub one_reading : Laws → (files : List (List ℕ × List ℕ)) (words : List (List ℕ)) (a b : PlainJob) → NamesDiffer files → ReadsJob (Some files) words a → ReadsJob (Some files) words b → a ≡ b
+one_reading laws files words a b differ p q =
     let names = one_name words p.name q.name p.command q.command in
     let P : List ℕ → Type 0 = λ name. HasFile files name p.bytes in
     let bytes = one_file files q.name p.bytes q.bytes differ (subst P names p.read.told) q.read.told in
     let Q : List ℕ → Type 0 = λ z. IsPlainJob z a in
-    one_job q.bytes a b (subst Q bytes p.plain) q.plain
+    one_job laws q.bytes a b (subst Q bytes p.plain) q.plain

@@ -6,8 +6,9 @@ use Rattle.std.proofs.lemmas.List.Elements.{All-from_recursion}
 use Rattle.pdfmicro_run.specs.declared.sizes.Sizes.{Sizes}
 use Rattle.pdfmicro_run.specs.declared.pages.FontRow.{FontRow}
 use Rattle.pdfmicro_run.specs.Dvi.{row_of, instance_name}
-use Rattle.pdfmicro_run.specs.Galley.{size_at, glyphs_from, greatest_size, line_of, page_of, InMeasure, IsShort}
-use Rattle.pdfmicro_run.specs.PlainJob.{IsText}
+use Rattle.pdfmicro_run.specs.declared.plain_job.PlainParagraph.{PlainParagraph}
+use Rattle.pdfmicro_run.specs.Galley.{size_at, glyphs_from, greatest_size, line_of, page_of, page_in, InMeasure, IsShort, IsShortIn}
+use Rattle.pdfmicro_run.specs.PlainReading.{IsKeptParagraph}
 use Rattle.pdfmicro_run.specs.PlainPages.{base, Adjoin, IsPlainPage}
 use Rattle.pdfmicro_run.specs.Writable.{IsPlace, IsDefinable, IsGlyphWritable, IsLineWritable, IsWritable}
 
@@ -28,9 +29,9 @@ plain_page sizes hsize text few = record {
   adjoin = adjoin sizes (pos 0) text;
 }
 
-pub plain_pages : (sizes : Sizes) (hsize : ℤ) (texts : List (List ℕ)) → AllByRecursion IsText texts → AllByRecursion IsPlainPage (map (page_of sizes hsize) texts)
-plain_pages sizes hsize [] h = tt
-plain_pages sizes hsize (text ∷ texts) h = (plain_page sizes hsize text h.0.1, plain_pages sizes hsize texts h.1)
+pub plain_pages : (sizes : Sizes) (paragraphs : List PlainParagraph) → AllByRecursion IsKeptParagraph paragraphs → AllByRecursion IsPlainPage (map (page_in sizes) paragraphs)
+plain_pages sizes [] h = tt
+plain_pages sizes (p ∷ ps) h = (plain_page sizes p.hsize p.text h.0.few, plain_pages sizes ps h.1)
 
 -- a place within the width is a place on a page
 in_width : (hsize z : ℤ) → hsize ≤ℤ pos 1073741823 → pos 0 ≤ℤ z → z ≤ℤ hsize → IsPlace z
@@ -65,10 +66,10 @@ page_writable row sizes hsize text few wide natural short = record {
 natural_height : (sizes : Sizes) (text : List ℕ) → pos 0 ≤ℤ greatest_size sizes.heights text
 natural_height sizes text = (fold-int_max_bounds (pos 0) (map (size_at sizes.heights) text) (greatest_size sizes.heights text) refl).0
 
-by_recursion : (row : FontRow) (sizes : Sizes) (hsize : ℤ) (texts : List (List ℕ)) → length row.name ≤ 40 → hsize ≤ℤ pos 1073741823 → AllByRecursion (IsShort sizes hsize) texts → AllByRecursion (IsWritable (row ∷ [])) (map (page_of sizes hsize) texts)
-by_recursion row sizes hsize [] few wide h = tt
-by_recursion row sizes hsize (text ∷ texts) few wide h =
-    (page_writable row sizes hsize text few wide (natural_height sizes text) h.0, by_recursion row sizes hsize texts few wide h.1)
+by_recursion : (row : FontRow) (sizes : Sizes) (paragraphs : List PlainParagraph) → length row.name ≤ 40 → AllByRecursion IsKeptParagraph paragraphs → AllByRecursion (IsShortIn sizes) paragraphs → AllByRecursion (IsWritable (row ∷ [])) (map (page_in sizes) paragraphs)
+by_recursion row sizes [] few kept h = tt
+by_recursion row sizes (p ∷ ps) few kept h =
+    (page_writable row sizes p.hsize p.text few kept.0.wide (natural_height sizes p.text) h.0, by_recursion row sizes ps few kept.1 h.1)
 
-pub pages_writable : (row : FontRow) (sizes : Sizes) (hsize : ℤ) (texts : List (List ℕ)) → length row.name ≤ 40 → hsize ≤ℤ pos 1073741823 → AllByRecursion (IsShort sizes hsize) texts → All (IsWritable (row ∷ [])) (map (page_of sizes hsize) texts)
-pages_writable row sizes hsize texts few wide h = All-from_recursion (IsWritable (row ∷ [])) _ (by_recursion row sizes hsize texts few wide h)
+pub pages_writable : (row : FontRow) (sizes : Sizes) (paragraphs : List PlainParagraph) → length row.name ≤ 40 → AllByRecursion IsKeptParagraph paragraphs → AllByRecursion (IsShortIn sizes) paragraphs → All (IsWritable (row ∷ [])) (map (page_in sizes) paragraphs)
+pages_writable row sizes paragraphs few kept h = All-from_recursion (IsWritable (row ∷ [])) _ (by_recursion row sizes paragraphs few kept h)

@@ -3,8 +3,9 @@ use Rattle.std.proofs.Common.{◌≡◌, ℕ, ◌+◌, arith, ◌≤◌, List, l
 use Rattle.tfm_read.specs.declared.tfm.Tfm.{Tfm}
 use Rattle.tfm_read.specs.Font.{IsTfm}
 use Rattle.pdfmicro_run.specs.declared.answer.Answer.{Answer}
-use Rattle.pdfmicro_run.specs.declared.answer.Answer.TheVariants.{Done, BadWords, Absent, ReadFault, FileTooLong, NotPlain, Font, LongParagraph, OutFault, NoMemory}
-use Rattle.pdfmicro_run.specs.PlainJob.{PlainJob, IsPlainJob}
+use Rattle.pdfmicro_run.specs.declared.answer.Answer.TheVariants.{Done, BadWords, Absent, ReadFault, FileTooLong, Job, NotPlain, Font, LongParagraph, OutFault, NoMemory}
+use Rattle.pdfmicro_run.specs.declared.plain_job.PlainJob.{PlainJob}
+use Rattle.pdfmicro_run.specs.PlainJob.{IsPlainJob}
 use Rattle.outside_io.specs.declared.faults.ShelfFault.{ShelfFault}
 use Rattle.outside_io.specs.declared.faults.ShelfFault.TheVariants.{Absent as ShelfAbsent}
 use Rattle.outside_io.specs.Counts.{RisesBy}
@@ -18,6 +19,7 @@ bytes_after_font job bytes tfm old new (NotPlain file) is h = (tfm, is, h)
 bytes_after_font job bytes tfm old new (LongParagraph paragraph) is h = (tfm, is, h)
 bytes_after_font job bytes tfm old new NoMemory is h = tt
 bytes_after_font job bytes tfm old new BadWords is h = absurd h
+bytes_after_font job bytes tfm old new (Job place kind) is h = absurd h
 bytes_after_font job bytes tfm old new (Absent file) is h = absurd h
 bytes_after_font job bytes tfm old new (ReadFault file) is h = absurd h
 bytes_after_font job bytes tfm old new (FileTooLong file) is h = absurd h
@@ -30,6 +32,7 @@ job_after_bytes files job bytes old new (NotPlain file) read h = (h.0, record { 
 job_after_bytes files job bytes old new (LongParagraph paragraph) read h = (h.0, record { bytes = bytes; read = read; font = h.1 }, h.2)
 job_after_bytes files job bytes old new NoMemory read h = tt
 job_after_bytes files job bytes old new BadWords read h = absurd h.2
+job_after_bytes files job bytes old new (Job place kind) read h = absurd h.2
 job_after_bytes files job bytes old new (Absent file) read h = absurd h.2
 job_after_bytes files job bytes old new (ReadFault file) read h = absurd h.2
 job_after_bytes files job bytes old new (FileTooLong file) read h = absurd h.2
@@ -43,6 +46,7 @@ explained_after_job files words job old new (NotPlain file) read h = inr (job, r
 explained_after_job files words job old new (LongParagraph paragraph) read h = (job, read, h)
 explained_after_job files words job old new NoMemory read h = tt
 explained_after_job files words job old new BadWords read h = absurd h
+explained_after_job files words job old new (Job place kind) read h = absurd h
 explained_after_job files words job old new (Absent file) read h = inr (job, read, h)
 explained_after_job files words job old new (ReadFault file) read h = inr (job, read, h)
 explained_after_job files words job old new (FileTooLong file) read h = inr (job, read, h)
@@ -68,6 +72,7 @@ with_job_bytes files bytes job old new (NotPlain file) plain h = inr (job, plain
 with_job_bytes files bytes job old new (LongParagraph paragraph) plain h = (job, plain, h)
 with_job_bytes files bytes job old new NoMemory plain h = tt
 with_job_bytes files bytes job old new BadWords plain h = absurd h
+with_job_bytes files bytes job old new (Job place kind) plain h = absurd h
 with_job_bytes files bytes job old new (Absent file) plain h = (job, plain, h)
 with_job_bytes files bytes job old new (ReadFault file) plain h = (job, plain, h)
 with_job_bytes files bytes job old new (FileTooLong file) plain h = (job, plain, h)
@@ -80,6 +85,7 @@ pub explained_with_job : (files : Files) (words : List (List ℕ)) (name bytes :
 explained_with_job files words name bytes old new (NotPlain file) command read (inl h) = inl (h.0, (name, command, (bytes, read, h.1)))
 explained_with_job files words name bytes old new (NotPlain file) command read (inr h) = inr (h.0, reads files words name bytes h.0 command read h.1, h.2)
 explained_with_job files words name bytes old new NoMemory command read h = tt
+explained_with_job files words name bytes old new (Job place kind) command read h = (name, command, (bytes, read, h))
 explained_with_job files words name bytes old new Done command read h = explained_after_job files words h.0 old new Done (reads files words name bytes h.0 command read h.1) h.2
 explained_with_job files words name bytes old new OutFault command read h = explained_after_job files words h.0 old new OutFault (reads files words name bytes h.0 command read h.1) h.2
 explained_with_job files words name bytes old new (LongParagraph paragraph) command read h = explained_after_job files words h.0 old new (LongParagraph paragraph) (reads files words name bytes h.0 command read h.1) h.2
@@ -97,6 +103,7 @@ calls_after_bytes job bytes old new (NotPlain file) before after h e = omega (ar
 calls_after_bytes job bytes old new (LongParagraph paragraph) before after h e = e
 calls_after_bytes job bytes old new NoMemory before after h e = (1, omega arith, e)
 calls_after_bytes job bytes old new BadWords before after h e = absurd h.2
+calls_after_bytes job bytes old new (Job place kind) before after h e = absurd h.2
 calls_after_bytes job bytes old new (Absent file) before after h e = absurd h.2
 calls_after_bytes job bytes old new (ReadFault file) before after h e = absurd h.2
 calls_after_bytes job bytes old new (FileTooLong file) before after h e = absurd h.2
@@ -109,6 +116,7 @@ calls_from_job (NotPlain file) before middle after e h = omega (arith, e, h)
 calls_from_job (LongParagraph paragraph) before middle after e h = omega (arith, e, h)
 calls_from_job NoMemory before middle after e h = (h.0 + 1, omega (arith, h.1), omega (arith, e, h.2))
 calls_from_job BadWords before middle after e h = absurd h
+calls_from_job (Job place kind) before middle after e h = omega (arith, e, h)
 calls_from_job (Absent file) before middle after e h = omega (arith, e, h)
 calls_from_job (ReadFault file) before middle after e h = omega (arith, e, h)
 calls_from_job (FileTooLong file) before middle after e h = omega (arith, e, h)

@@ -4,9 +4,10 @@
 --     page_of sizes hsize text     the text's page
 --     InMeasure hsize glyph        both edges of a glyph are from 0 to hsize
 --     IsShort sizes hsize text     every glyph of the text's line is, and its height and depth are places
---     Serves tfm texts             the font has no ligature words, and every code of the texts
---     galley name tfm job          the DVI file of a plain job
-use Rattle.std.specs.Prelude.{◌≡◌, ℕ, ◌+◌, ◌*◌, List, [], ◌∷◌, ◌++◌, length, map, slice_index_or, true, ℤ, pos, ◌+ℤ◌, ◌≤ℤ◌, fold}
+--     page_in, IsShortIn           the same of a paragraph's text and width
+--     Serves tfm paragraphs        the font has no ligature words, and every code of the texts
+--     galley tfm job               the DVI file of a plain job
+use Rattle.std.specs.Prelude.{◌≡◌, ℕ, ◌+◌, List, [], ◌∷◌, ◌++◌, length, map, slice_index_or, true, ℤ, pos, ◌+ℤ◌, ◌≤ℤ◌, fold}
 use Rattle.std.specs.Int.{int_max}
 use Rattle.std.specs.List.{AllByRecursion}
 use Rattle.micro_num.specs.Scaling.{scaled}
@@ -20,7 +21,8 @@ use Rattle.pdfmicro_run.specs.declared.pages.Page.{Page}
 use Rattle.pdfmicro_run.specs.declared.pages.FontRow.{FontRow}
 use Rattle.pdfmicro_run.specs.Dvi.{dvi}
 use Rattle.pdfmicro_run.specs.PlainPages.{base}
-use Rattle.pdfmicro_run.specs.PlainJob.{PlainJob, number_of}
+use Rattle.pdfmicro_run.specs.declared.plain_job.PlainParagraph.{PlainParagraph}
+use Rattle.pdfmicro_run.specs.declared.plain_job.PlainJob.{PlainJob}
 
 -- sizes in sp, as fix_words of the design size
 abbrev pub sizes_of : Tfm → Sizes
@@ -73,30 +75,32 @@ pub record IsShort (sizes : Sizes) (hsize : ℤ) (text : List ℕ) : Type 0 wher
   pub height : greatest_size sizes.heights text ≤ℤ pos 1073741823
   pub extent : (greatest_size sizes.heights text +ℤ greatest_size sizes.depths text) ≤ℤ pos 1073741823
 
--- the first text whose line is too long or too high, counted from 1
-pub record IsFirstLong (sizes : Sizes) (hsize : ℤ) (texts : List (List ℕ)) (paragraph : ℕ) : Type 0 where
-  pub before : List (List ℕ)
-  pub text : List ℕ
-  pub after : List (List ℕ)
-  pub split : texts ≡ before ++ text ∷ after
-  pub place : paragraph ≡ length before + 1
-  pub short : AllByRecursion (IsShort sizes hsize) before
-  pub long : IsShort sizes hsize text → ⊥
+abbrev pub page_in : Sizes → PlainParagraph → Page
+page_in sizes paragraph = page_of sizes paragraph.hsize paragraph.text
+
+abbrev pub IsShortIn : Sizes → PlainParagraph → Type 0
+IsShortIn sizes paragraph = IsShort sizes paragraph.hsize paragraph.text
+
+-- the first paragraph whose line is too long or too high, counted from 1
+pub record IsFirstLong (sizes : Sizes) (paragraphs : List PlainParagraph) (number : ℕ) : Type 0 where
+  pub before : List PlainParagraph
+  pub paragraph : PlainParagraph
+  pub after : List PlainParagraph
+  pub split : paragraphs ≡ before ++ paragraph ∷ after
+  pub place : number ≡ length before + 1
+  pub short : AllByRecursion (IsShortIn sizes) before
+  pub long : IsShortIn sizes paragraph → ⊥
 
 -- the font has every code of the text
 abbrev pub HasCodes : Tfm → List ℕ → Type 0
 HasCodes tfm text = AllByRecursion (λ code. exists_at tfm.chars code ≡ true) text
 
-pub record Serves (tfm : Tfm) (texts : List (List ℕ)) : Type 0 where
+pub record Serves (tfm : Tfm) (paragraphs : List PlainParagraph) : Type 0 where
   pub no_ligatures : tfm.ligs ≡ []
-  pub codes : AllByRecursion (HasCodes tfm) texts
-
--- the width of a job's lines, in sp
-abbrev pub hsize_of : PlainJob → ℤ
-hsize_of job = pos (65536 * number_of job.digits)
+  pub codes : AllByRecursion (λ paragraph. HasCodes tfm paragraph.text) paragraphs
 
 abbrev pub pages_of : Tfm → PlainJob → List Page
-pages_of tfm job = map (page_of (sizes_of tfm) (hsize_of job)) job.texts
+pages_of tfm job = map (page_in (sizes_of tfm)) job.paragraphs
 
 -- the font at its design size
 abbrev pub row_of : Tfm → PlainJob → FontRow

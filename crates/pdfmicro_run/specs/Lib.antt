@@ -1,4 +1,3 @@
-pub mod Bytes
 pub mod Dvi
 pub mod Galley
 pub mod GalleyReading

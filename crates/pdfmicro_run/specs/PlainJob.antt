@@ -1,74 +1,80 @@
--- A plain job: one font at its design size, one line width, and paragraphs of one line each. It is a
--- text of lines, each ended by one line feed:
---     \font\f=NAME \f            NAME is 1 to 40 letters, digits or hyphens
---     \hsize=Npt                 N is 1 to 16383, in decimal digits without a leading zero
--- and then nothing, or 1 to 65,535 paragraphs, between which an empty line stands:
---     \noindent TEXT             TEXT is 1 to 16,000 letters and digits
-use Rattle.std.specs.Prelude.{◌≡◌, ◌≢◌, ℕ, ◌+◌, ◌-◌, ◌*◌, ◌≤◌, List, [], ◌∷◌, ◌++◌, length, codes, Bool, true, ◌||◌, nat_eq}
+-- A plain job: it declares one font, at its design size and not expanded, and each of its paragraphs is a
+-- text for one line.
+--     IsTextOf hyphen parts text      the parts are the font, the text's characters and at most one space
+--     IsPlainPar hyphen par paragraph the paragraph isn't indented, and no parameter but `\hsize` was changed
+--     IsPlain said job                what a job says is this plain job
+--     IsPlainJob bytes job            the bytes spell this plain job
+--     IsNoPlainJob bytes              the bytes spell a job that isn't plain
+use Rattle.std.specs.Prelude.{◌≡◌, ◌≢◌, ℕ, ◌≤◌, ℤ, pos, ◌≤ℤ◌, false, List, [], ◌∷◌, ◌++◌, length, map, None}
 use Rattle.std.specs.List.{AllByRecursion}
-use Rattle.std.specs.Char.{is_ascii_alphanumeric, is_ascii_digit}
-use Rattle.pdfmicro_run.specs.declared.bytes.Class.{Class}
-use Rattle.pdfmicro_run.specs.declared.bytes.Class.TheVariants.{Name, Digit, Alphanumeric}
+use Rattle.micro_num.specs.declared.params.Params.{Params}
+use Rattle.micro_num.specs.declared.paragraph.Par.{Par}
+use Rattle.micro_num.specs.declared.paragraph.PartAt.{PartAt}
+use Rattle.micro_num.specs.declared.part.Part.{Part}
+use Rattle.micro_num.specs.declared.part.Part.TheVariants.{Char, Space, Font as font_part}
+use Rattle.micro_num.specs.Plain.{plain_params}
+use Rattle.font_stock.specs.declared.size.Size.TheVariants.{Design}
+use Rattle.job_text.specs.Fonts.{Font}
+use Rattle.job_text.specs.Answers.{Said, IsJobOf}
+use Rattle.pdfmicro_run.specs.declared.plain_job.PlainParagraph.{PlainParagraph}
+use Rattle.pdfmicro_run.specs.declared.plain_job.PlainJob.{PlainJob}
 
-pub record PlainJob : Type 0 where
-  pub name : List ℕ
-  pub digits : List ℕ
-  pub texts : List (List ℕ)
+abbrev pub parts_of : List PartAt → List Part
+parts_of = map (λ (one : PartAt). one.part)
 
-abbrev pub in_class : Class → ℕ → Bool
-in_class Name byte = is_ascii_alphanumeric byte || nat_eq byte 45
-in_class Digit byte = is_ascii_digit byte
-in_class Alphanumeric byte = is_ascii_alphanumeric byte
+abbrev pub characters : List ℕ → List Part
+characters = map (λ code. Char code)
 
--- each byte is of the class
-abbrev pub AllOf : Class → List ℕ → Type 0
-AllOf class bytes = AllByRecursion (λ byte. in_class class byte ≡ true) bytes
+-- nothing, or one space
+abbrev pub IsEnding : List Part → Type 0
+IsEnding [] = Unit {0}
+IsEnding (part ∷ []) = part ≡ Space
+IsEnding (part ∷ other ∷ parts) = ⊥
 
-abbrev pub IsName : List ℕ → Type 0
-IsName name = (1 ≤ length name) × (length name ≤ 40) × AllOf Name name
+-- no code of the text is the hyphen character
+abbrev pub NoHyphen : ℤ → List ℕ → Type 0
+NoHyphen hyphen text = AllByRecursion (λ code. pos code ≢ hyphen) text
 
--- the number that the digits stand for, behind the digits of another
-abbrev pub number_after : ℕ → List ℕ → ℕ
-number_after front [] = front
-number_after front (digit ∷ digits) = number_after (10 * front + (digit - 48)) digits
+-- the parts are the one font, 1 to 16,000 characters and at most one space
+pub record IsTextOf (hyphen : ℤ) (parts : List Part) (text : List ℕ) : Type 0 where
+  pub some : 1 ≤ length text
+  pub few : length text ≤ 16000
+  pub no_hyphen : NoHyphen hyphen text
+  pub ending : List Part
+  pub is_ending : IsEnding ending
+  pub parts_are : parts ≡ font_part 0 ∷ (characters text ++ ending)
 
-abbrev pub number_of : List ℕ → ℕ
-number_of digits = number_after 0 digits
+-- the parameters of plain TeX, but for the width of the lines
+abbrev pub with_hsize : ℤ → Params
+with_hsize hsize = record plain_params { hsize = hsize }
 
-abbrev pub NoLeadingZero : List ℕ → Type 0
-NoLeadingZero [] = Unit {0}
-NoLeadingZero (digit ∷ digits) = digit ≢ 48
+pub record IsPlainPar (hyphen : ℤ) (par : Par) (paragraph : PlainParagraph) : Type 0 where
+  pub unindented : par.indent ≡ false
+  pub params : par.params ≡ with_hsize paragraph.hsize
+  pub wide : pos 1 ≤ℤ paragraph.hsize
+  pub text : IsTextOf hyphen (parts_of par.parts) paragraph.text
 
-abbrev pub IsPoints : List ℕ → Type 0
-IsPoints digits = (1 ≤ length digits) × AllOf Digit digits × NoLeadingZero digits × (number_of digits ≤ 16383)
+-- each paragraph is the plain one at its place
+abbrev pub ArePlain : ℤ → List Par → List PlainParagraph → Type 0
+ArePlain hyphen [] [] = Unit {0}
+ArePlain hyphen [] (paragraph ∷ paragraphs) = ⊥
+ArePlain hyphen (par ∷ pars) [] = ⊥
+ArePlain hyphen (par ∷ pars) (paragraph ∷ paragraphs) = IsPlainPar hyphen par paragraph × ArePlain hyphen pars paragraphs
 
-abbrev pub IsText : List ℕ → Type 0
-IsText text = (1 ≤ length text) × (length text ≤ 16000) × AllOf Alphanumeric text
+pub record IsPlain (said : Said) (job : PlainJob) : Type 0 where
+  pub font : Font
+  pub one : said.fonts ≡ font ∷ []
+  pub name : job.name ≡ font.name
+  pub size : font.size ≡ Design
+  pub expand : font.expand ≡ None
+  pub paragraphs : ArePlain font.codes.hyphen said.pars job.paragraphs
 
--- a paragraph's line, and what follows it
-unfoldable pub line_before : List ℕ → List ℕ → List ℕ
-line_before text rest = codes "\\noindent " ++ (text ++ (codes "\n" ++ rest))
-
--- the paragraphs, an empty line between each two
-abbrev pub more_paragraphs : List (List ℕ) → List ℕ
-more_paragraphs [] = []
-more_paragraphs (text ∷ texts) = 10 ∷ line_before text (more_paragraphs texts)
-
-abbrev pub paragraphs : List (List ℕ) → List ℕ
-paragraphs [] = []
-paragraphs (text ∷ texts) = line_before text (more_paragraphs texts)
-
-unfoldable pub job_bytes : PlainJob → List ℕ
-job_bytes job =
-    codes "\\font\\f=" ++ (job.name ++ (codes " \\f\n"
-    ++ (codes "\\hsize=" ++ (job.digits ++ (codes "pt\n" ++ paragraphs job.texts)))))
-
-abbrev pub AreTexts : List (List ℕ) → Type 0
-AreTexts texts = AllByRecursion IsText texts × (length texts ≤ 65535)
-
--- the bytes are this job
 pub record IsPlainJob (bytes : List ℕ) (job : PlainJob) : Type 0 where
-  pub name : IsName job.name
-  pub points : IsPoints job.digits
-  pub texts : AreTexts job.texts
-  pub spelled : bytes ≡ job_bytes job
+  pub said : Said
+  pub is_job : IsJobOf bytes said
+  pub plain : IsPlain said job
+
+pub record IsNoPlainJob (bytes : List ℕ) : Type 0 where
+  pub said : Said
+  pub is_job : IsJobOf bytes said
+  pub not_plain : (job : PlainJob) → IsPlain said job → ⊥

@@ -1,31 +1,42 @@
--- What the reader of a plain job hands out, seen as the job.
-use Rattle.std.specs.Prelude.{◌≡◌, ℕ, List, Result, Ok, Err, ⊤, map}
-use Rattle.std.proofs.Common.{Bor}
+-- What the reader of plain jobs hands out, and what it refuses.
+use Rattle.std.specs.Prelude.{◌≡◌, ◌≤◌, pos, ◌≤ℤ◌, ℤ, List, [], ◌∷◌, length, Result, Ok, Err, ⊤}
+use Rattle.std.specs.List.{AllByRecursion}
+use Rattle.micro_num.specs.declared.part.Part.{Part}
+use Rattle.micro_num.specs.declared.part.Part.TheVariants.{Char}
+use Rattle.job_text.specs.Fits.{IsFileName}
 use Rattle.pdfmicro_run.specs.declared.plain_job.JobRefused.{JobRefused}
 use Rattle.pdfmicro_run.specs.declared.plain_job.JobRefused.TheVariants.{NotPlain, NoMemory}
-use Rattle.pdfmicro_run.specs.declared.plain_job.PlainJob.{PlainJob as Read}
-use Rattle.pdfmicro_run.specs.PlainJob.{PlainJob, IsName, IsPoints, AreTexts, number_of}
+use Rattle.pdfmicro_run.specs.declared.plain_job.PlainParagraph.{PlainParagraph}
+use Rattle.pdfmicro_run.specs.declared.plain_job.PlainJob.{PlainJob}
 
--- what slices hold
-abbrev pub text_views : List (Bor (List ℕ)) → List (List ℕ)
-text_views texts = map (λ (text : Bor (List ℕ)). text.now) texts
+-- a part that is no character of a text: it is the hyphen character, or no character
+abbrev pub EndsCodes : ℤ → Part → Type 0
+EndsCodes hyphen (Char code) = pos code ≡ hyphen
+EndsCodes hyphen _ = Unit {0}
 
-abbrev pub job_view : Read → PlainJob
-job_view job = record { name = job.name.now; digits = job.digits.now; texts = text_views job.texts.items }
+-- what stands behind the characters of a text begins with none of its characters
+abbrev pub EndsText : ℤ → List Part → Type 0
+EndsText hyphen [] = Unit {0}
+EndsText hyphen (part ∷ parts) = EndsCodes hyphen part
+
+-- a text of at most 16,000 codes on a line of 0 to 2^30 - 1 sp
+pub record IsKeptParagraph (paragraph : PlainParagraph) : Type 0 where
+  pub few : length paragraph.text ≤ 16000
+  pub natural : pos 0 ≤ℤ paragraph.hsize
+  pub wide : paragraph.hsize ≤ℤ pos 1073741823
 
 -- what the reader keeps of a plain job
-pub record IsKept (job : Read) : Type 0 where
-  pub name : IsName job.name.now
-  pub digits : IsPoints job.digits.now
-  pub points : job.points ≡ number_of job.digits.now
-  pub texts : AreTexts (text_views job.texts.items)
+pub record IsKept (job : PlainJob) : Type 0 where
+  pub name : IsFileName job.name
+  pub paragraphs : AllByRecursion IsKeptParagraph job.paragraphs
+  pub few : length job.paragraphs ≤ 65535
 
--- want of memory alone may stand in the place of an answer
-abbrev pub IsWant : JobRefused → Type 0
-IsWant NotPlain = ⊥
-IsWant NoMemory = ⊤
+-- the fact, where the refusal isn't want of memory
+abbrev pub OnNotPlain : JobRefused → Type 0 → Type 0
+OnNotPlain NotPlain P = P
+OnNotPlain NoMemory P = ⊤
 
--- The answer is this value, unless memory ran out.
-abbrev pub Gives : {X Y : Type 0} → (X → Y) → Y → Result X JobRefused → Type 0
-Gives view value (Ok x) = view x ≡ value
-Gives view value (Err refused) = IsWant refused
+-- the fact, where something was refused as not plain
+abbrev pub IfNotPlain : {X : Type 0} → Result X JobRefused → Type 0 → Type 0
+IfNotPlain (Err refused) P = OnNotPlain refused P
+IfNotPlain (Ok x) P = ⊤

@@ -16,9 +16,11 @@ use Rattle.tfm_read.specs.Checks.{Fault, fault_of}
 use Rattle.tfm_read.specs.FaultNumbers.{number_of}
 use Rattle.tfm_read.specs.Font.{IsTfm}
 use Rattle.pdfmicro_run.specs.declared.answer.Answer.{Answer}
-use Rattle.pdfmicro_run.specs.declared.answer.Answer.TheVariants.{Done, BadWords, Absent, ReadFault, FileTooLong, NotPlain, Font, LongParagraph, OutFault, NoMemory}
-use Rattle.pdfmicro_run.specs.PlainJob.{PlainJob, IsPlainJob}
-use Rattle.pdfmicro_run.specs.Galley.{sizes_of, hsize_of, IsShort, IsFirstLong, Serves, galley}
+use Rattle.job_text.specs.Answers.{IsFaultAt}
+use Rattle.pdfmicro_run.specs.declared.answer.Answer.TheVariants.{Done, BadWords, Absent, ReadFault, FileTooLong, Job, NotPlain, Font, LongParagraph, OutFault, NoMemory}
+use Rattle.pdfmicro_run.specs.declared.plain_job.PlainJob.{PlainJob}
+use Rattle.pdfmicro_run.specs.PlainJob.{IsPlainJob, IsNoPlainJob}
+use Rattle.pdfmicro_run.specs.Galley.{sizes_of, IsShortIn, IsFirstLong, Serves, galley}
 
 abbrev pub Files : Type 0
 Files = Option (List (List ℕ × List ℕ))
@@ -68,7 +70,7 @@ pub record HasFontFault (files : Files) (job : PlainJob) (kind word : ℕ) : Typ
 
 -- each paragraph fits on its line
 abbrev pub AllShort : Tfm → PlainJob → Type 0
-AllShort tfm job = AllByRecursion (IsShort (sizes_of tfm) (hsize_of job)) job.texts
+AllShort tfm job = AllByRecursion (IsShortIn (sizes_of tfm)) job.paragraphs
 
 -- what an output is seen as: its bytes, where it tells them, and its calls
 pub record Out : Type 0 where
@@ -90,16 +92,17 @@ WritesPart bytes old new =
 
 -- what an answer says once the job and its font are there
 abbrev pub AfterFont : PlainJob → Tfm → Out → Out → Answer → Type 0
-AfterFont job tfm old new Done = Serves tfm job.texts × AllShort tfm job × Writes (galley tfm job) old new
-AfterFont job tfm old new OutFault = Serves tfm job.texts × AllShort tfm job × WritesPart (galley tfm job) old new
-AfterFont job tfm old new (NotPlain file) = (file ≡ 1) × (Serves tfm job.texts → ⊥)
+AfterFont job tfm old new Done = Serves tfm job.paragraphs × AllShort tfm job × Writes (galley tfm job) old new
+AfterFont job tfm old new OutFault = Serves tfm job.paragraphs × AllShort tfm job × WritesPart (galley tfm job) old new
+AfterFont job tfm old new (NotPlain file) = (file ≡ 1) × (Serves tfm job.paragraphs → ⊥)
 AfterFont job tfm old new (LongParagraph paragraph) =
-    Serves tfm job.texts × IsFirstLong (sizes_of tfm) (hsize_of job) job.texts paragraph
+    Serves tfm job.paragraphs × IsFirstLong (sizes_of tfm) job.paragraphs paragraph
 AfterFont job tfm old new NoMemory = ⊤
 AfterFont job tfm old new BadWords = ⊥
 AfterFont job tfm old new (Absent file) = ⊥
 AfterFont job tfm old new (ReadFault file) = ⊥
 AfterFont job tfm old new (FileTooLong file) = ⊥
+AfterFont job tfm old new (Job place kind) = ⊥
 AfterFont job tfm old new (Font font kind word) = ⊥
 
 -- some font was read, and the answer says this of it
@@ -119,6 +122,7 @@ AfterJob files job old new (NotPlain file) = WithFont files job (λ tfm. AfterFo
 AfterJob files job old new (LongParagraph paragraph) =
     WithFont files job (λ tfm. AfterFont job tfm old new (LongParagraph paragraph))
 AfterJob files job old new BadWords = ⊥
+AfterJob files job old new (Job place kind) = ⊥
 
 -- some plain job was read, and the answer says this of it
 abbrev pub WithJob : Files → List (List ℕ) → (PlainJob → Type 0) → Type 0
@@ -128,13 +132,12 @@ WithJob files words P = (job : PlainJob) × ReadsJob files words job × P job
 abbrev pub WithName : List (List ℕ) → (List ℕ → Type 0) → Type 0
 WithName words P = (name : List ℕ) × IsCommand words name × P name
 
--- the bytes of the job are no plain job
-abbrev pub IsNoPlainJob : Files → List ℕ → Type 0
-IsNoPlainJob files name =
-    (bytes : List ℕ) × WasRead files name bytes × ((job : PlainJob) → IsPlainJob bytes job → ⊥)
+-- the job was read, and P holds of its bytes
+abbrev pub WithBytes : Files → List ℕ → (List ℕ → Type 0) → Type 0
+WithBytes files name P = (bytes : List ℕ) × WasRead files name bytes × P bytes
 
--- what an answer says: the first cause in the order of the words, the job, its form, the font, its
--- form, the paragraphs and the writing
+-- what an answer says: the first cause in the order of the words, the job's read, its grammar, its form,
+-- the font's read, its checks, its form, the paragraphs and the writing
 abbrev pub Explains : Files → List (List ℕ) → Out → Out → Answer → Type 0
 Explains files words old new BadWords = (name : List ℕ) → IsCommand words name → ⊥
 Explains files words old new NoMemory = ⊤
@@ -145,7 +148,8 @@ Explains files words old new (ReadFault file) =
 Explains files words old new (FileTooLong file) =
     ((file ≡ 0) × WithName words (IsTooBig files)) ⊎ WithJob files words (λ job. AfterJob files job old new (FileTooLong file))
 Explains files words old new (NotPlain file) =
-    ((file ≡ 0) × WithName words (IsNoPlainJob files)) ⊎ WithJob files words (λ job. AfterJob files job old new (NotPlain file))
+    ((file ≡ 0) × WithName words (λ name. WithBytes files name IsNoPlainJob)) ⊎ WithJob files words (λ job. AfterJob files job old new (NotPlain file))
+Explains files words old new (Job place kind) = WithName words (λ name. WithBytes files name (λ bytes. IsFaultAt bytes place kind))
 Explains files words old new Done = WithJob files words (λ job. AfterJob files job old new Done)
 Explains files words old new OutFault = WithJob files words (λ job. AfterJob files job old new OutFault)
 Explains files words old new (Font font kind word) =
@@ -169,6 +173,7 @@ ShelfCalls (Absent file) before after = RisesBy (file + 1) before after
 ShelfCalls (ReadFault file) before after = RisesBy (file + 1) before after
 ShelfCalls (FileTooLong file) before after = RisesBy (file + 1) before after
 ShelfCalls (NotPlain file) before after = RisesBy (file + 1) before after
+ShelfCalls (Job place kind) before after = RisesBy 1 before after
 ShelfCalls (Font font kind word) before after = RisesBy (font + 2) before after
 ShelfCalls NoMemory before after = (calls : ℕ) × (calls ≤ 2) × RisesBy calls before after
 ShelfCalls _ before after = RisesBy 2 before after
@@ -186,6 +191,7 @@ ShelfCallsAfterJob (Absent file) before after = RisesBy file before after
 ShelfCallsAfterJob (ReadFault file) before after = RisesBy file before after
 ShelfCallsAfterJob (FileTooLong file) before after = RisesBy file before after
 ShelfCallsAfterJob (NotPlain file) before after = RisesBy file before after
+ShelfCallsAfterJob (Job place kind) before after = RisesBy 0 before after
 ShelfCallsAfterJob (Font font kind word) before after = RisesBy (font + 1) before after
 ShelfCallsAfterJob NoMemory before after = (calls : ℕ) × (calls ≤ 1) × RisesBy calls before after
 ShelfCallsAfterJob _ before after = RisesBy 1 before after
@@ -201,7 +207,8 @@ WithFontBytes job bytes old new answer = (tfm : Tfm) × IsTfm bytes tfm × After
 abbrev pub WithJobBytes : Files → List ℕ → Out → Out → Answer → Type 0
 WithJobBytes files bytes old new NoMemory = ⊤
 WithJobBytes files bytes old new (NotPlain file) =
-    ((file ≡ 0) × ((job : PlainJob) → IsPlainJob bytes job → ⊥)) ⊎ ((job : PlainJob) × IsPlainJob bytes job × AfterJob files job old new (NotPlain file))
+    ((file ≡ 0) × IsNoPlainJob bytes) ⊎ ((job : PlainJob) × IsPlainJob bytes job × AfterJob files job old new (NotPlain file))
+WithJobBytes files bytes old new (Job place kind) = IsFaultAt bytes place kind
 WithJobBytes files bytes old new answer = (job : PlainJob) × IsPlainJob bytes job × AfterJob files job old new answer
 
 -- the answers that say nothing of the job and the font: a failed read, and want of memory

@@ -1,10 +1,11 @@
 -- The status of each answer.
 use Rattle.std.specs.Prelude.{ℕ}
 use Rattle.pdfmicro_run.specs.declared.answer.Answer.{Answer}
-use Rattle.pdfmicro_run.specs.declared.answer.Answer.TheVariants.{Done, BadWords, Absent, ReadFault, FileTooLong, NotPlain, Font, LongParagraph, OutFault, NoMemory}
+use Rattle.pdfmicro_run.specs.declared.answer.Answer.TheVariants.{Done, BadWords, Absent, ReadFault, FileTooLong, NotPlain, Font, LongParagraph, OutFault, NoMemory, Job}
 
 abbrev pub status_of : Answer → ℕ
 status_of Done = 0
+status_of (Job place kind) = 1
 status_of (Font font kind word) = 1
 status_of BadWords = 2
 status_of (Absent file) = 3

@@ -4,6 +4,7 @@ ghost use Rattle.pdfmicro_run.specs.Status.{status_of};
 
 use crate::pages::Owner;
 use items::Items;
+use job_text::JobFaultKind;
 
 /// How a run ended. File 0 is the job, and file f + 1 is font f.
 #[derive(Clone, Copy, Debug, PartialEq, Eq)]
@@ -18,8 +19,10 @@ pub enum Answer {
     ReadFault { file: u32 },
     /// The file has more than 16,777,216 bytes.
     FileTooLong { file: u32 },
-    /// The job isn't plain (file 0), or the font doesn't serve it: it has ligature words, or lacks a
-    /// code of the job (file 1).
+    /// The job's first fault, and the place in the file where it stands, in bytes.
+    Job { offset: u32, kind: JobFaultKind },
+    /// The job has no fault and isn't plain (file 0), or the font doesn't serve it: it has ligature
+    /// words, or lacks a code of the job (file 1).
     NotPlain { file: u32 },
     /// The font's TFM file has a fault: the number of its kind, from 1 to 10, and its word.
     Font { font: u32, kind: u8, word: u32 },
@@ -38,7 +41,7 @@ impl Answer {
     {
         match self {
             Answer::Done => 0,
-            Answer::Font { .. } => 1,
+            Answer::Job { .. } | Answer::Font { .. } => 1,
             Answer::BadWords => 2,
             Answer::Absent { .. } => 3,
             Answer::ReadFault { .. } => 4,

@@ -1,25 +1,23 @@
 //! The DVI file of a plain job.
-ghost use Rattle.std.specs.Prelude.{◌≡◌, ◌*◌, ◌≤◌, ◌∷◌, [], pos, length, IfOk, All, string_bytes};
+ghost use Rattle.std.specs.Prelude.{◌≡◌, ◌≤◌, ◌∷◌, [], length, IfOk, All, string_bytes};
 ghost use Rattle.std.specs.List.{AllByRecursion};
 ghost use Rattle.pdfmicro_run.specs.Dvi.{dvi};
 ghost use Rattle.pdfmicro_run.specs.PlainPages.{IsPlainPage};
 ghost use Rattle.pdfmicro_run.specs.Writable.{IsWritable};
-ghost use Rattle.pdfmicro_run.specs.Galley.{IsFirstLong, sizes_of, hsize_of, row_of, galley};
+ghost use Rattle.pdfmicro_run.specs.Galley.{IsFirstLong, sizes_of, row_of, galley};
 ghost use Rattle.pdfmicro_run.specs.GalleysReading.{IfLongAt};
-ghost use Rattle.pdfmicro_run.specs.PlainJob.{AllOf};
-ghost use Rattle.pdfmicro_run.specs.PlainReading.{job_view, IsKept};
+ghost use Rattle.pdfmicro_run.specs.PlainReading.{IsKept};
 ghost use Rattle.pdfmicro_run.specs.Run.{AllShort};
-ghost use Rattle.pdfmicro_run.specs.declared.bytes.Class.TheVariants as Class;
+ghost use Rattle.job_text.specs.Fits.{IsFileName};
 
 use crate::dvi::{DviFault, dvi_bytes};
-use crate::galley::Measure;
 use crate::galleys::{GalleyRefused, pages};
 use crate::numbering::Numbering;
 use crate::pages::{FontRow, Page};
 use crate::plain_job::PlainJob;
 use crate::sizes::Sizes;
 use items::Text;
-use micro_num::{NoMemory, Sp};
+use micro_num::NoMemory;
 use std::alloc::{AllocError, Global};
 use tfm_read::Tfm;
 
@@ -28,36 +26,18 @@ const MOST_BYTES: u64 = 2_147_483_647;
 
 /// A font's name as a text.
 pub fn name_text(alloc: Global, name: &[u8]) -> Result<String, AllocError>
-    requires { AllOf Class.Name name.now }
+    requires { IsFileName name.now }
     ensures { IfOk result (λ text. string_bytes text ≡ name.now) }
 {
     String::from_utf8_lossy(alloc, name)
 }
 
-/// A width of so many points in sp.
-fn points_in_sp(points: u32) -> Sp
-    requires { points ≤ 16383 }
-    ensures { result ≡ pos (65536 * points) }
-{
-    65_536 * points as i32
-}
-
-/// What all lines of the job share.
-fn measure_of(alloc: Global, tfm: &Tfm, job: &PlainJob) -> Result<Measure, NoMemory>
-    requires { IsKept job.now }
-    ensures { IfOk result (λ measure. (measure.sizes ≡ sizes_of tfm.now) × (measure.hsize ≡ hsize_of (job_view job.now))) }
-{
-    let sizes = Sizes::of(alloc, tfm)?;
-    let hsize = points_in_sp(job.points);
-    Ok(Measure { sizes, hsize })
-}
-
 /// What the file says of the job's font.
 fn row_for(alloc: Global, tfm: &Tfm, job: &PlainJob) -> Result<FontRow, AllocError>
     requires { IsKept job.now }
-    ensures { IfOk result (λ row. row ≡ row_of tfm.now (job_view job.now)) }
+    ensures { IfOk result (λ row. row ≡ row_of tfm.now job.now) }
 {
-    let name = name_text(alloc, job.name)?;
+    let name = name_text(alloc, job.name.as_slice())?;
     Ok(FontRow {
         name: Text::from_string(name),
         checksum: tfm.checksum,
@@ -70,11 +50,11 @@ fn row_for(alloc: Global, tfm: &Tfm, job: &PlainJob) -> Result<FontRow, AllocErr
 /// long.
 pub fn document(alloc: Global, tfm: &Tfm, job: &PlainJob) -> Result<Vec<u8>, GalleyRefused>
     requires { IsKept job.now }
-    ensures ok { IfOk result (λ bytes. (bytes.items ≡ galley tfm.now (job_view job.now)) × AllShort tfm.now (job_view job.now)) }
-    ensures long { IfLongAt result (IsFirstLong (sizes_of tfm.now) (hsize_of (job_view job.now)) (job_view job.now).texts) }
+    ensures ok { IfOk result (λ bytes. (bytes.items ≡ galley tfm.now job.now) × AllShort tfm.now job.now) }
+    ensures long { IfLongAt result (IsFirstLong (sizes_of tfm.now) job.now.paragraphs) }
 {
-    let measure = measure_of(alloc, tfm, job)?;
-    let pages = match pages(alloc, &measure, job.texts.as_slice()) {
+    let sizes = Sizes::of(alloc, tfm)?;
+    let pages = match pages(alloc, &sizes, job.paragraphs.as_slice()) {
         Ok(pages) => pages,
         Err(refused) => return Err(refused),
     };

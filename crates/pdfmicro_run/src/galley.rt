@@ -1,7 +1,8 @@
 //! Sets the texts of a plain job, each on one line of a page of its own.
 ghost use Rattle.std.specs.Prelude.{◌≡◌, ◌≢◌, IfOk, IfErr, MatchOption, IsTrue, ◌↔◌, true, map, [], ◌∷◌, pos, ◌+ℤ◌, ◌≤ℤ◌};
 ghost use Rattle.std.specs.List.{AllByRecursion};
-ghost use Rattle.pdfmicro_run.specs.PlainReading.{text_views};
+ghost use Rattle.pdfmicro_run.specs.Galley.{glyphs_from, InMeasure, IsShort, page_of};
+ghost use Rattle.pdfmicro_run.specs.GalleyReading.{IfLong};
 ghost use Rattle.pdfmicro_run.specs.declared.galley.LineRefused.TheVariants.{NoMemory};
 
 use crate::pages::{Cell, Packed, Page, Placed};
@@ -41,13 +42,6 @@ impl<T: Drop> From<AllocFailed<T>> for LineRefused {
     }
 }
 
-/// What all lines of a galley share: the scaled sizes of the font, and the width in sp.
-#[derive(Drop)]
-pub struct Measure {
-    pub sizes: Sizes,
-    pub hsize: Sp,
-}
-
 /// The sum of a left edge and an advance, if it lies from 0 to the width.
 fn right_edge(x: Sp, advance: Sp, hsize: Sp) -> Option<Sp>
     ensures { MatchOption result ((pos 0 ≤ℤ (x +ℤ advance)) → ((x +ℤ advance) ≤ℤ hsize) → ⊥) (λ right. (right ≡ x +ℤ advance) × (pos 0 ≤ℤ right) × (right ≤ℤ hsize)) }
@@ -75,65 +69,65 @@ fn extent_of(height: Sp, depth: Sp) -> Option<Sp>
     Some(extent as i32)
 }
 
-impl Measure {
-    ghost use Rattle.pdfmicro_run.specs.Galley.{glyphs_from, InMeasure, IsShort, page_of};
-    ghost use Rattle.pdfmicro_run.specs.GalleyReading.{IfLong};
-
-    /// The glyphs of a text, each where the one before ends.
-    fn glyphs(&self, alloc: Global, text: &[u8]) -> Result<Items<Placed>, LineRefused>
-        requires { pos 0 ≤ℤ self.now.hsize }
-        ensures ok { IfOk result (λ glyphs. (glyphs ≡ glyphs_from self.now.sizes (pos 0) text.now) × AllByRecursion (InMeasure self.now.hsize) (glyphs_from self.now.sizes (pos 0) text.now)) }
-        ensures long { IfLong result (AllByRecursion (InMeasure self.now.hsize) (glyphs_from self.now.sizes (pos 0) text.now) → ⊥) }
-    {
-        let mut glyphs = Vec::with_capacity(alloc, text.len())?;
-        let mut x = 0;
-        for code in text {
-            let advance = size_at(self.sizes.widths.as_slice(), *code);
-            let Some(right) = right_edge(x, advance, self.hsize) else {
-                return Err(LineRefused::Long);
-            };
-            glyphs.push(Placed {
-                x,
-                cell: BASE,
-                code: *code,
-                advance,
-            })?;
-            x = right;
-        }
-        Ok(Items::from_vec(glyphs))
-    }
-
-    /// The page of a text.
-    pub fn page(&self, alloc: Global, text: &[u8]) -> Result<Page, LineRefused>
-        requires { pos 0 ≤ℤ self.now.hsize }
-        ensures ok { IfOk result (λ page. (page ≡ page_of self.now.sizes self.now.hsize text.now) × IsShort self.now.sizes self.now.hsize text.now) }
-        ensures long { IfLong result (IsShort self.now.sizes self.now.hsize text.now → ⊥) }
-    {
-        let height = greatest_size(self.sizes.heights.as_slice(), text);
-        let depth = greatest_size(self.sizes.depths.as_slice(), text);
-        let glyphs = match self.glyphs(alloc, text) {
-            Ok(glyphs) => glyphs,
-            Err(refused) => return Err(refused),
-        };
-        if i64::from(height) > MOST_PLACE {
-            return Err(LineRefused::Long);
-        }
-        let Some(extent) = extent_of(height, depth) else {
+/// The glyphs of a text, each where the one before ends.
+fn glyphs(
+    alloc: Global,
+    sizes: &Sizes,
+    hsize: Sp,
+    text: &[u8],
+) -> Result<Items<Placed>, LineRefused>
+    requires { pos 0 ≤ℤ hsize }
+    ensures ok { IfOk result (λ glyphs. (glyphs ≡ glyphs_from sizes.now (pos 0) text.now) × AllByRecursion (InMeasure hsize) (glyphs_from sizes.now (pos 0) text.now)) }
+    ensures long { IfLong result (AllByRecursion (InMeasure hsize) (glyphs_from sizes.now (pos 0) text.now) → ⊥) }
+{
+    let mut glyphs = Vec::with_capacity(alloc, text.len())?;
+    let mut x = 0;
+    for code in text {
+        let advance = size_at(sizes.widths.as_slice(), *code);
+        let Some(right) = right_edge(x, advance, hsize) else {
             return Err(LineRefused::Long);
         };
-        let line = Packed {
-            glyphs,
-            height,
-            depth,
-            width: self.hsize,
-        };
-        Ok(Page {
-            lines: one(alloc, line)?,
-            baselines: one(alloc, height)?,
-            extent,
-            width: self.hsize,
-        })
+        glyphs.push(Placed {
+            x,
+            cell: BASE,
+            code: *code,
+            advance,
+        })?;
+        x = right;
     }
+    Ok(Items::from_vec(glyphs))
+}
+
+/// The page of a text on a line of a width.
+pub fn page(alloc: Global, sizes: &Sizes, hsize: Sp, text: &[u8]) -> Result<Page, LineRefused>
+    requires { pos 0 ≤ℤ hsize }
+    ensures ok { IfOk result (λ page. (page ≡ page_of sizes.now hsize text.now) × IsShort sizes.now hsize text.now) }
+    ensures long { IfLong result (IsShort sizes.now hsize text.now → ⊥) }
+{
+    let height = greatest_size(sizes.heights.as_slice(), text);
+    let depth = greatest_size(sizes.depths.as_slice(), text);
+    let glyphs = match glyphs(alloc, sizes, hsize, text) {
+        Ok(glyphs) => glyphs,
+        Err(refused) => return Err(refused),
+    };
+    if i64::from(height) > MOST_PLACE {
+        return Err(LineRefused::Long);
+    }
+    let Some(extent) = extent_of(height, depth) else {
+        return Err(LineRefused::Long);
+    };
+    let line = Packed {
+        glyphs,
+        height,
+        depth,
+        width: hsize,
+    };
+    Ok(Page {
+        lines: one(alloc, line)?,
+        baselines: one(alloc, height)?,
+        extent,
+        width: hsize,
+    })
 }
 
 /// A list of one element.

@@ -1,13 +1,15 @@
-//! Sets all texts of a plain job, and tells whether a font serves them.
+//! Sets all paragraphs of a plain job, and tells whether a font serves them.
 ghost use Rattle.std.specs.Prelude.{◌≡◌, ◌≤◌, ◌↔◌, length, map, IfOk, IsTrue, true, pos, ◌≤ℤ◌};
 ghost use Rattle.std.specs.List.{AllByRecursion};
-ghost use Rattle.pdfmicro_run.specs.Galley.{HasCodes, Serves, IsShort, IsFirstLong, page_of};
-ghost use Rattle.pdfmicro_run.specs.PlainReading.{text_views};
+ghost use Rattle.pdfmicro_run.specs.Galley.{HasCodes, Serves, IsShortIn, IsFirstLong, page_in};
+ghost use Rattle.pdfmicro_run.specs.PlainReading.{IsKeptParagraph};
 ghost use Rattle.pdfmicro_run.specs.GalleysReading.{IfLongAt};
 ghost use Rattle.pdfmicro_run.specs.declared.galleys.GalleyRefused.TheVariants.{NoMemory};
 
-use crate::galley::{LineRefused, Measure};
+use crate::galley::{LineRefused, page};
 use crate::pages::Page;
+use crate::plain_job::PlainParagraph;
+use crate::sizes::Sizes;
 use std::alloc::{AllocError, AllocFailed, Global};
 use tfm_read::Tfm;
 
@@ -56,38 +58,42 @@ fn has_codes(tfm: &Tfm, text: &[u8]) -> bool
     true
 }
 
-/// Whether the font has every code of the texts.
-fn has_all_codes(tfm: &Tfm, texts: &[&[u8]]) -> bool
-    ensures { IsTrue result ↔ AllByRecursion (HasCodes tfm.now) (text_views texts.now) }
+/// Whether the font has every code of the paragraphs.
+fn has_all_codes(tfm: &Tfm, paragraphs: &[PlainParagraph]) -> bool
+    ensures { IsTrue result ↔ AllByRecursion (λ paragraph. HasCodes tfm.now paragraph.text) paragraphs.now }
 {
-    for text in texts {
-        if !has_codes(tfm, text) {
+    for paragraph in paragraphs {
+        if !has_codes(tfm, paragraph.text.as_slice()) {
             return false;
         }
     }
     true
 }
 
-/// Whether the font serves the texts: it has no ligature words, and every code of theirs.
-pub fn serves(tfm: &Tfm, texts: &[&[u8]]) -> bool
-    ensures { IsTrue result ↔ Serves tfm.now (text_views texts.now) }
+/// Whether the font serves the paragraphs: it has no ligature words, and every code of theirs.
+pub fn serves(tfm: &Tfm, paragraphs: &[PlainParagraph]) -> bool
+    ensures { IsTrue result ↔ Serves tfm.now paragraphs.now }
 {
     if tfm.ligs.len() != 0 {
         return false;
     }
-    has_all_codes(tfm, texts)
+    has_all_codes(tfm, paragraphs)
 }
 
-/// The pages of the texts, in order.
-pub fn pages(alloc: Global, measure: &Measure, texts: &[&[u8]]) -> Result<Vec<Page>, GalleyRefused>
-    requires hsize { pos 0 ≤ℤ measure.now.hsize }
-    requires few { length texts.now ≤ 65535 }
-    ensures ok { IfOk result (λ pages. (pages.items ≡ map (page_of measure.now.sizes measure.now.hsize) (text_views texts.now)) × AllByRecursion (IsShort measure.now.sizes measure.now.hsize) (text_views texts.now)) }
-    ensures long { IfLongAt result (IsFirstLong measure.now.sizes measure.now.hsize (text_views texts.now)) }
+/// The pages of the paragraphs, in order.
+pub fn pages(
+    alloc: Global,
+    sizes: &Sizes,
+    paragraphs: &[PlainParagraph],
+) -> Result<Vec<Page>, GalleyRefused>
+    requires kept { AllByRecursion IsKeptParagraph paragraphs.now }
+    requires few { length paragraphs.now ≤ 65535 }
+    ensures ok { IfOk result (λ pages. (pages.items ≡ map (page_in sizes.now) paragraphs.now) × AllByRecursion (IsShortIn sizes.now) paragraphs.now) }
+    ensures long { IfLongAt result (IsFirstLong sizes.now paragraphs.now) }
 {
-    let mut pages = Vec::with_capacity(alloc, texts.len())?;
-    for (number, text) in texts.iter().enumerate() {
-        match measure.page(alloc, text) {
+    let mut pages = Vec::with_capacity(alloc, paragraphs.len())?;
+    for (number, paragraph) in paragraphs.iter().enumerate() {
+        match page(alloc, sizes, paragraph.hsize, paragraph.text.as_slice()) {
             Ok(page) => pages.push(page)?,
             Err(LineRefused::Long) => {
                 return Err(GalleyRefused::Long {

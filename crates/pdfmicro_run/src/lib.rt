@@ -2,7 +2,6 @@
 #![tactic(auto)]
 
 pub mod answer;
-mod bytes;
 mod document;
 pub mod dvi;
 mod galley;

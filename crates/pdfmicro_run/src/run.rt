@@ -1,10 +1,13 @@
 //! The top call.
-ghost use Rattle.std.specs.Prelude.{◌≡◌, ◌≤◌, ◌⊎◌, ⊤, [], ℕ, List, IfOk, IsSome, Some, string_bytes};
+ghost use Rattle.std.specs.Prelude.{◌≡◌, ◌≤◌, ◌<◌, ◌^◌, length, ◌⊎◌, ⊤, [], ℕ, List, IfOk, IsSome, Some, string_bytes};
 ghost use Rattle.outside_io.specs.Counts.{Rose, RisesBy};
-ghost use Rattle.pdfmicro_run.specs.PlainReading.{job_view, IsKept};
+ghost use Rattle.job_text.specs.declared.fault.JobFaultKind.{JobFaultKind as FaultKind};
+ghost use Rattle.job_text.specs.Answers.{IsFaultAt};
+ghost use Rattle.pdfmicro_run.specs.PlainReading.{IsKept};
 ghost use Rattle.pdfmicro_run.specs.Run.{IsCommand, WasRead, ReadsJob, ReadsFont, AllShort, IsOutside, IsDone, font_file, AfterFont, AfterJob, WithFontBytes, WithJobBytes, Explains, Causes, ShelfCalls, ShelfCallsAfterJob, Quiet};
 ghost use Rattle.pdfmicro_run.specs.Galley.{Serves};
-ghost use Rattle.pdfmicro_run.specs.PlainJob.{PlainJob as JobText, IsPlainJob};
+ghost use Rattle.pdfmicro_run.specs.PlainJob.{IsNoPlainJob};
+ghost use Rattle.pdfmicro_run.specs.declared.plain_job.PlainJob.{PlainJob as Plain};
 ghost use Rattle.tfm_read.specs.Checks.{Fault, fault_of};
 ghost use Rattle.tfm_read.specs.FaultNumbers.{number_of};
 ghost use Rattle.tfm_read.specs.declared.tfm.Tfm.{Tfm};
@@ -18,6 +21,7 @@ use crate::pieces::write_pieces;
 use crate::plain_job::{JobRefused, PlainJob, plain_job};
 use crate::words::job_name;
 use items::Items;
+use job_text::{JobFault, one_reading, read_job};
 use outside_io::{Gate, Shelf, ShelfFault, Sink};
 use std::alloc::{AllocError, Global};
 use std::thread::Threads;
@@ -30,11 +34,11 @@ const MOST_BYTES: u64 = 16_777_216;
 fn after_font<O: Sink>(alloc: Global, job: &PlainJob, tfm: &Tfm, out: &mut O) -> Answer
     requires { IsKept job.now }
     ensures faults { O.faults out.old ≤ O.faults out.new }
-    ensures answer { AfterFont (job_view job.now) tfm.now (record { written = O.written out.old; calls = O.calls out.old }) (record { written = O.written out.new; calls = O.calls out.new }) result }
+    ensures answer { AfterFont job.now tfm.now (record { written = O.written out.old; calls = O.calls out.old }) (record { written = O.written out.new; calls = O.calls out.new }) result }
     ensures causes { Causes result ⊤ ⊤ ⊤ (Rose (O.faults out.old) (O.faults out.new)) }
     ensures quiet { Quiet result (out.new ≡ out.old) }
 {
-    if !serves(tfm, job.texts.as_slice()) {
+    if !serves(tfm, job.paragraphs.as_slice()) {
         return Answer::NotPlain { file: 1 };
     }
     let bytes = match document(alloc, tfm, job) {
@@ -51,9 +55,9 @@ fn after_font<O: Sink>(alloc: Global, job: &PlainJob, tfm: &Tfm, out: &mut O) ->
 /// The name of the font's file.
 fn font_name(alloc: Global, job: &PlainJob) -> Result<String, AllocError>
     requires { IsKept job.now }
-    ensures { IfOk result (λ name. string_bytes name ≡ font_file (job_view job.now)) }
+    ensures { IfOk result (λ name. string_bytes name ≡ font_file job.now) }
 {
-    let mut name = name_text(alloc, job.name)?;
+    let mut name = name_text(alloc, job.name.as_slice())?;
     name.push_str(".tfm")?;
     Ok(name)
 }
@@ -62,7 +66,7 @@ fn font_name(alloc: Global, job: &PlainJob) -> Result<String, AllocError>
 fn with_font<O: Sink>(alloc: Global, job: &PlainJob, bytes: &[u8], out: &mut O) -> Answer
     requires { IsKept job.now }
     ensures faults { O.faults out.old ≤ O.faults out.new }
-    ensures answer { WithFontBytes (job_view job.now) bytes.now (record { written = O.written out.old; calls = O.calls out.old }) (record { written = O.written out.new; calls = O.calls out.new }) result }
+    ensures answer { WithFontBytes job.now bytes.now (record { written = O.written out.old; calls = O.calls out.old }) (record { written = O.written out.new; calls = O.calls out.new }) result }
     ensures causes { Causes result ⊤ ⊤ ⊤ (Rose (O.faults out.old) (O.faults out.new)) }
     ensures quiet { Quiet result (out.new ≡ out.old) }
 {
@@ -80,7 +84,7 @@ fn with_font<O: Sink>(alloc: Global, job: &PlainJob, bytes: &[u8], out: &mut O) 
 /// Reads the job's font, sets the job and writes the file.
 fn after_job<S: Shelf, O: Sink>(alloc: Global, job: &PlainJob, shelf: &mut S, out: &mut O) -> Answer
     requires { IsKept job.now }
-    ensures answer { AfterJob (S.files shelf.old) (job_view job.now) (record { written = O.written out.old; calls = O.calls out.old }) (record { written = O.written out.new; calls = O.calls out.new }) result }
+    ensures answer { AfterJob (S.files shelf.old) job.now (record { written = O.written out.old; calls = O.calls out.old }) (record { written = O.written out.new; calls = O.calls out.new }) result }
     ensures causes { Causes result (Rose (S.absences shelf.old) (S.absences shelf.new)) (Rose (S.excesses shelf.old) (S.excesses shelf.new)) (Rose (S.faults shelf.old) (S.faults shelf.new)) (Rose (O.faults out.old) (O.faults out.new)) }
     ensures calls { ShelfCallsAfterJob result (S.calls shelf.old) (S.calls shelf.new) }
     ensures files { S.files shelf.new ≡ S.files shelf.old }
@@ -98,15 +102,21 @@ fn after_job<S: Shelf, O: Sink>(alloc: Global, job: &PlainJob, shelf: &mut S, ou
     }
 }
 
-/// Reads the plain job that the bytes are, sets it and writes the file.
+/// Reads the job that the bytes spell, sets it where it is plain, and writes the file.
 fn with_job<S: Shelf, O: Sink>(alloc: Global, bytes: &[u8], shelf: &mut S, out: &mut O) -> Answer
+    requires { length bytes.now < 2 ^ 32 }
     ensures answer { WithJobBytes (S.files shelf.old) bytes.now (record { written = O.written out.old; calls = O.calls out.old }) (record { written = O.written out.new; calls = O.calls out.new }) result }
     ensures causes { Causes result (Rose (S.absences shelf.old) (S.absences shelf.new)) (Rose (S.excesses shelf.old) (S.excesses shelf.new)) (Rose (S.faults shelf.old) (S.faults shelf.new)) (Rose (O.faults out.old) (O.faults out.new)) }
     ensures calls { ShelfCallsAfterJob result (S.calls shelf.old) (S.calls shelf.new) }
     ensures quiet { Quiet result (out.new ≡ out.old) }
 {
-    match plain_job(alloc, bytes) {
-        Ok(job) => after_job(alloc, &job, shelf, out),
+    let job = match read_job(alloc, bytes) {
+        Ok(job) => job,
+        Err(JobFault::At { offset, kind }) => return Answer::Job { offset, kind },
+        Err(JobFault::NoMemory) => return Answer::NoMemory,
+    };
+    match plain_job(alloc, &job) {
+        Ok(plain) => after_job(alloc, &plain, shelf, out),
         Err(JobRefused::NotPlain) => Answer::NotPlain { file: 0 },
         Err(JobRefused::NoMemory) => Answer::NoMemory,
     }
@@ -138,13 +148,13 @@ fn answer_of<S: Shelf, O: Sink>(
 }
 
 /// Carries out the words of a command line: a program's name, `set` and the name of a job. It reads the
-/// job and its font from the shelf, sets each paragraph on one line of a page of its own and writes the
+/// job and its font from the shelf, sets each paragraph of a plain job on one line of a page of its own and writes the
 /// DVI file to the output, in pieces of 16,384 bytes. Nothing is written to `talk`, the gate isn't
 /// passed, and no thread is started.
 ///
-/// Each answer comes with its cause, in the order of the words, the job's read, its form, the font's
-/// read, its TFM checks, its form, the paragraphs and the writing; want of memory may come in the place
-/// of any but `BadWords`. An answer that blames the outside comes only where the outside counted it.
+/// Each answer comes with its cause, in the order of the words, the job's read, its grammar, its form,
+/// the font's read, its TFM checks, its form, the paragraphs and the writing; want of memory may come in
+/// the place of any but `BadWords`. An answer that blames the outside comes only where the outside counted it.
 /// After every answer but `Done` and `OutFault` the output is as before.
 pub fn run_micro<R: Threads + Sync, S: Shelf, O: Sink, T: Sink, G: Gate + Sync>(
     _rt: &R,
@@ -168,28 +178,32 @@ pub fn run_micro<R: Threads + Sync, S: Shelf, O: Sink, T: Sink, G: Gate + Sync>(
     ensures talk_unchanged { _talk.new ≡ _talk.old }
 
     // Where the shelf tells its files and has a plain job and its font, they determine the answer.
-    ensures determined { (job : JobText) (tfm : Tfm) → IsSome (S.files shelf.old)
+    ensures determined { (job : Plain) (tfm : Tfm) → IsSome (S.files shelf.old)
         → ReadsJob (S.files shelf.old) (word_texts words.now) job → ReadsFont (S.files shelf.old) job tfm
         → IsOutside result.answer ⊎ AfterFont job tfm (record { written = O.written out.old; calls = O.calls out.old }) (record { written = O.written out.new; calls = O.calls out.new }) result.answer }
 
-    // So do a job that isn't plain, a font with a fault, and words that are no command.
+    // So do a job with a fault, one that isn't plain, a font with a fault, and words that are no command.
+    ensures job_fault { (name bytes : List ℕ) (place : ℕ) (kind : FaultKind) → IsSome (S.files shelf.old)
+        → IsCommand (word_texts words.now) name → WasRead (S.files shelf.old) name bytes → IsFaultAt bytes place kind
+        → IsOutside result.answer ⊎ (result.answer ≡ Answer.Job place kind) }
     ensures form_fault { (name bytes : List ℕ) → IsSome (S.files shelf.old) → IsCommand (word_texts words.now) name
-        → WasRead (S.files shelf.old) name bytes → ((job : JobText) → IsPlainJob bytes job → ⊥)
+        → WasRead (S.files shelf.old) name bytes → IsNoPlainJob bytes
         → IsOutside result.answer ⊎ (result.answer ≡ Answer.NotPlain 0) }
-    ensures font_fault { (job : JobText) (bytes : List ℕ) (fault : Fault) → IsSome (S.files shelf.old)
+    ensures font_fault { (job : Plain) (bytes : List ℕ) (fault : Fault) → IsSome (S.files shelf.old)
         → ReadsJob (S.files shelf.old) (word_texts words.now) job → WasRead (S.files shelf.old) (font_file job) bytes
         → fault_of bytes ≡ Some fault
         → IsOutside result.answer ⊎ (result.answer ≡ Answer.Font 0 (number_of fault.kind) fault.word) }
     ensures bad_words { ((name : List ℕ) → IsCommand (word_texts words.now) name → ⊥) → result.answer ≡ Answer.BadWords }
 
     // A job that can be set is set, where no read and no write fails.
-    ensures complete { (job : JobText) (tfm : Tfm) → IsSome (S.files shelf.old)
+    ensures complete { (job : Plain) (tfm : Tfm) → IsSome (S.files shelf.old)
         → ReadsJob (S.files shelf.old) (word_texts words.now) job → ReadsFont (S.files shelf.old) job tfm
-        → Serves tfm job.texts → AllShort tfm job
+        → Serves tfm job.paragraphs → AllShort tfm job
         → ¬ Rose (S.faults shelf.old) (S.faults shelf.new) → ¬ Rose (O.faults out.old) (O.faults out.new)
         → IsDone result.answer }
 {
     one_font();
+    one_reading();
     let answer = answer_of(alloc, words, shelf, out);
     RunEnd {
         status: answer.status(),

@@ -1,88 +1,49 @@
-use Rattle.std.proofs.Common.{◌≡◌, ℕ, List, ◌++◌, length, ◌≤◌, refl, sym, ◌∙◌, ap, subst, arith, codes}
-use Rattle.pdfmicro_run.specs.declared.bytes.Class.TheVariants as Class
-use Rattle.pdfmicro_run.specs.PlainJob.{PlainJob as JobText, IsName, IsPoints, AreTexts, IsPlainJob, job_bytes, paragraphs}
-use Rattle.pdfmicro_run.specs.Bytes.{IsField}
-use Rattle.pdfmicro_run.proofs.Runs.{field_unique}
+use Rattle.std.proofs.Common.{◌≡◌, ℤ, List, [], ◌∷◌, length, get_or, refl, rules, arith, sym, ap, ◌∙◌, subst, w32, Some, None, Option, false}
+use Rattle.std.specs.Prelude.{FitsSigned, All, is_some}
+use Rattle.std.specs.List.{AllByRecursion}
+use Rattle.std.proofs.lemmas.Bool.{false≢true}
+use Rattle.std.proofs.lemmas.Int.{to_z-of_z}
+use Rattle.std.proofs.lemmas.List.Elements.{All-head, All-tail}
+use Rattle.micro_num.specs.declared.paragraph.Par.{Par}
+use Rattle.job_text.specs.declared.font_decl.FontDecl.{FontDecl}
+use Rattle.job_text.specs.Fonts.{font_of, fonts_of, limits_of}
+use Rattle.std.specs.Option.{option_map}
+use Rattle.job_text.specs.Fits.{IsFileName}
+use Rattle.pdfmicro_run.specs.PlainJob.{ArePlain}
+use Rattle.pdfmicro_run.proofs.PlainJobs.{all_kept, as_many}
 use Rattle.pdfmicro_run.proofs.plain_job.plain_job.Goals as goal
 
--- what follows the first line
-after_name : JobText → List ℕ
-after_name job = codes "\\hsize=" ++ (job.digits ++ (codes "pt\n" ++ paragraphs job.texts))
+-- the one element of a list
+one_of : {X : Type 0} (xs : List X) (x : X) → length xs ≡ 1 → x ≡ get_or xs 0 x → xs ≡ x ∷ []
+one_of [] x one at = absurd (omega (arith, one))
+one_of (y ∷ []) x one at = ap (λ z. z ∷ []) (sym at)
+one_of (y ∷ z ∷ xs) x one at = absurd (omega (arith, one))
 
-name_field : (bytes : List ℕ) (job : JobText) → IsPlainJob bytes job → IsField (codes "\\font\\f=") Class.Name (codes " \\f\n") bytes job.name (after_name job)
-unfolding job_bytes after_name
-name_field bytes job plain = record { each = plain.name.2; spelled = plain.spelled }
+none_there : {X Y : Type 0} (f : X → Y) (o : Option X) → is_some o ≡ false → option_map f o ≡ None
+none_there f None none = refl
+none_there f (Some x) none = absurd (false≢true (sym none))
 
--- a job's parts are those of any reading of its fields
-pub record Agree (job : JobText) (front middle end : List ℕ) : Type 0 where
-  pub name : job.name ≡ front
-  pub digits : job.digits ≡ middle
-  pub rest : end ≡ paragraphs job.texts
-
-after_field : (bytes : List ℕ) (job : JobText) (name rest : List ℕ) → IsPlainJob bytes job → IsField (codes "\\font\\f=") Class.Name (codes " \\f\n") bytes name rest → (job.name ≡ name) × (rest ≡ after_name job)
-after_field bytes job name rest plain f =
-    let u = field_unique _ Class.Name _ bytes job.name (after_name job) name rest refl (name_field bytes job plain) f in
-    (u.0, sym u.1)
-
-digits_field : (bytes rest : List ℕ) (job : JobText) → IsPlainJob bytes job → rest ≡ after_name job → IsField (codes "\\hsize=") Class.Digit (codes "pt\n") rest job.digits (paragraphs job.texts)
-unfolding after_name
-digits_field bytes rest job plain e = record { each = plain.points.1; spelled = e }
-
-agree : (bytes : List ℕ) (job : JobText) (name middle digits rest : List ℕ) → IsPlainJob bytes job → IsField (codes "\\font\\f=") Class.Name (codes " \\f\n") bytes name middle → IsField (codes "\\hsize=") Class.Digit (codes "pt\n") middle digits rest → Agree job name digits rest
-agree bytes job name middle digits rest plain f g =
-    let first = after_field bytes job name middle plain f in
-    let u = field_unique _ Class.Digit _ middle job.digits (paragraphs job.texts) digits rest refl (digits_field bytes middle job plain first.1) g in
-    record { name = first.0; digits = u.0; rest = sym u.1 }
-
-made : (bytes name middle digits rest : List ℕ) (texts : List (List ℕ)) → IsField (codes "\\font\\f=") Class.Name (codes " \\f\n") bytes name middle → IsField (codes "\\hsize=") Class.Digit (codes "pt\n") middle digits rest → rest ≡ paragraphs texts → IsName name → IsPoints digits → AreTexts texts → IsPlainJob bytes (record { name = name; digits = digits; texts = texts })
-unfolding job_bytes
-made bytes name middle digits rest texts f g e is_name is_points are =
-    record {
-      name = is_name;
-      points = is_points;
-      texts = are;
-      spelled = f.spelled ∙ ap (λ z. codes "\\font\\f=" ++ (name ++ (codes " \\f\n" ++ z))) (g.spelled ∙ ap (λ z. codes "\\hsize=" ++ (digits ++ (codes "pt\n" ++ z))) e);
-    }
-
-same_job : (job : JobText) (name digits : List ℕ) (texts : List (List ℕ)) → job.name ≡ name → job.digits ≡ digits → texts ≡ job.texts → record { name = name; digits = digits; texts = texts } ≡ job
-same_job job name digits texts a b c =
-    ap (λ (z : List ℕ). let made : JobText = record { name = z; digits = digits; texts = texts } in made) (sym a)
-    ∙ ap (λ (z : List ℕ). let made : JobText = record { name = job.name; digits = z; texts = texts } in made) (sym b)
-    ∙ ap (λ (z : List (List ℕ)). let made : JobText = record { name = job.name; digits = job.digits; texts = z } in made) c
-
-pub returns-in_default-clause-only : goal.returns-in_default-clause-only
-returns-in_default-clause-only c = λ job plain. c.in_default.ensures _ _ (name_field _ job plain)
-
-pub returns-in_default-field-clause-only : goal.returns-in_default-field-clause-only
-returns-in_default-field-clause-only c = λ job plain.
-    let first = after_field _ job _ _ plain c.in-Some.ensures in
-    c.in_default-field.ensures _ _ (digits_field _ _ job plain first.1)
-
-pub returns-then-is_empty-clause-only : goal.returns-then-is_empty-clause-only
-returns-then-is_empty-clause-only c = λ job plain.
-    let same = (agree _ job _ _ _ _ plain c.in-Some.ensures c.in-Some-field.ensures).name in
-    let len : length job.name ≡ length c.in-Some.name.now = ap length same in
-    let long : 1 ≤ length job.name = plain.name.0 in
-    grind arith
-
-pub returns-then-name-gt-MOST_NAME-clause-only : goal.returns-then-name-gt-MOST_NAME-clause-only
-returns-then-name-gt-MOST_NAME-clause-only c = λ job plain.
-    omega (arith, plain.name.1, ap length (agree _ job _ _ _ _ plain c.in-Some.ensures c.in-Some-field.ensures).name)
-
-pub returns-in_default-points_of-clause-only : goal.returns-in_default-points_of-clause-only
-returns-in_default-points_of-clause-only c = λ job plain.
-    c.in_default-points_of.ensures (subst IsPoints (agree _ job _ _ _ _ plain c.in-Some.ensures c.in-Some-field.ensures).digits plain.points)
-
-pub returns-in-Err-clause-only : goal.returns-in-Err-clause-only
-returns-in-Err-clause-only c = λ job plain.
-    let same = agree _ job _ _ _ _ plain c.in-Some.ensures c.in-Some-field.ensures in
-    c.in-Err.ensures.only job.texts plain.texts same.rest
+all_by_recursion : {X : Type 0} (P : X → Type 0) (xs : List X) → All P xs → AllByRecursion P xs
+all_by_recursion P [] all = tt
+all_by_recursion P (x ∷ xs) all = (All-head P x xs all, all_by_recursion P xs (All-tail P x xs all))
 
 pub returns-clause-found : goal.returns-clause-found
 returns-clause-found c =
-    (made _ _ _ _ _ _ c.in-Some.ensures c.in-Some-field.ensures c.in-Ok.ensures.found.1 (grind arith, omega arith, c.in-Some.ensures.each) c.in-Some-points_of.ensures.0 c.in-Ok.ensures.found.0, c.in-Some-points_of.ensures.1)
-
-pub returns-clause-only : goal.returns-clause-only
-returns-clause-only c = λ job plain.
-    let same = agree _ job _ _ _ _ plain c.in-Some.ensures c.in-Some-field.ensures in
-    same_job job _ _ _ same.name same.digits (c.in-Ok.ensures.only job.texts plain.texts same.rest)
+    let job = c.args.job.now in
+    let decl = c.index-as_slice-0.result in
+    let fits : FitsSigned w32 decl.codes.hyphen = search rules in
+    let one : job.fonts ≡ decl ∷ [] = one_of job.fonts decl (grind arith) (c.index-as_slice-0.is ∙ ap (λ z. get_or z 0 decl) c.as_slice.ensures) in
+    let slice : c.as_slice-2.result.now ≡ job.pars = c.as_slice-2.ensures in
+    let plain : ArePlain decl.codes.hyphen job.pars c.in-Ok.paragraphs =
+    (let P : List Par → Type 0 = λ z. ArePlain decl.codes.hyphen z c.in-Ok.paragraphs in
+    let Q : ℤ → Type 0 = λ z. ArePlain z c.as_slice-2.result.now c.in-Ok.paragraphs in
+    subst P slice (subst Q (to_z-of_z w32 _ fits) c.in-Ok.ensures.found)) in
+    let named : c.in_ok-name.name ≡ decl.name = c.in_ok-name.ensures ∙ c.as_slice-3.ensures in
+    let first : get_or job.fonts 0 decl ≡ decl = ap (λ z. get_or z 0 decl) one in (
+      record { font = font_of decl; one = ap fonts_of one; name = named; size = search rules; expand = none_there limits_of decl.expand (search rules); paragraphs = plain },
+      record {
+        name = subst IsFileName (ap (λ (d : FontDecl). d.name) first ∙ sym named) (c.requires.names 0 decl (grind arith));
+        paragraphs = all_kept decl.codes.hyphen job.pars c.in-Ok.paragraphs (all_by_recursion _ job.pars c.requires.params) plain;
+        few = omega (arith, as_many decl.codes.hyphen job.pars c.in-Ok.paragraphs plain, c.requires.few_pars);
+      },
+    )

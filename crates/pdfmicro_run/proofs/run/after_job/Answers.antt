@@ -1,5 +1,4 @@
 use Rattle.std.proofs.Common.{List, ℕ, ◌∙◌, refl, subst}
-use Rattle.pdfmicro_run.specs.PlainReading.{job_view}
 use Rattle.pdfmicro_run.specs.Run.{Out, WithFontBytes}
 use Rattle.pdfmicro_run.proofs.RunLaws.{job_after_bytes, was_read, is_missing, calls_after_bytes}
 use Rattle.pdfmicro_run.proofs.run.after_job.Goals as goal
@@ -8,8 +7,8 @@ pub returns-in-Ok-read-clause-answer : goal.returns-in-Ok-read-clause-answer
 returns-in-Ok-read-clause-answer g c =
     let old : Out = record { written = g.O.Sink.written c.args.out.now; calls = g.O.Sink.calls c.args.out.now } in
     let new : Out = record { written = g.O.Sink.written c.with_font.new.out; calls = g.O.Sink.calls c.with_font.new.out } in
-    let P : List ℕ → Type 0 = λ bytes. WithFontBytes (job_view c.args.job.now) bytes old new c.with_font.result in
-    job_after_bytes (g.S.Shelf.files c.args.shelf.now) (job_view c.args.job.now) c.in-Ok-read.bytes old new c.with_font.result
+    let P : List ℕ → Type 0 = λ bytes. WithFontBytes c.args.job.now bytes old new c.with_font.result in
+    job_after_bytes (g.S.Shelf.files c.args.shelf.now) c.args.job.now c.in-Ok-read.bytes old new c.with_font.result
     (was_read (g.S.Shelf.files c.args.shelf.now) _ _ c.in-Ok-read.bytes (c.as_str.ensures.value ∙ c.in-Ok.ensures) c.in-Ok-read.ensures.within c.in-Ok-read.ensures.told)
     (subst P c.as_slice.ensures c.with_font.ensures.answer)
 
@@ -21,4 +20,4 @@ pub returns-in-Ok-read-clause-calls : goal.returns-in-Ok-read-clause-calls
 returns-in-Ok-read-clause-calls g c =
     let old : Out = record { written = g.O.Sink.written c.args.out.now; calls = g.O.Sink.calls c.args.out.now } in
     let new : Out = record { written = g.O.Sink.written c.with_font.new.out; calls = g.O.Sink.calls c.with_font.new.out } in
-    calls_after_bytes (job_view c.args.job.now) c.as_slice.result.now old new c.with_font.result _ _ c.with_font.ensures.answer c.in-Ok-read.ensures.called
+    calls_after_bytes c.args.job.now c.as_slice.result.now old new c.with_font.result _ _ c.with_font.ensures.answer c.in-Ok-read.ensures.called
