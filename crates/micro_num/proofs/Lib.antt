@@ -1,3 +1,4 @@
 pub mod Floors
 pub mod Signs
 pub mod Expansions
+pub mod Parameters

@@ -11,7 +11,6 @@ pub mod PageSteps
 pub mod PiecesLaws
 pub mod PlainLength
 pub mod PlainPagesLaws
-pub mod PlainParams
 pub mod PlainJobs
 pub mod RunLaws
 pub mod ScaledSizes
