@@ -1,5 +1,5 @@
+use crate::bytes::bytes_of;
 use font_stock::Size;
-use hex::FromHexError;
 use job_text::{FontDecl, Job, JobFault};
 use liang_hyph::{Exception, Pattern};
 use micro_num::{Glue, Par, Params, Part, PartAt, Tables};
@@ -7,11 +7,8 @@ use std::alloc::{AllocError, Global};
 
 /// The job that the bytes spell which `left` gives in hexadecimal, or its first fault.
 pub fn answer(alloc: Global, left: &str) -> Result<Option<String>, AllocError> {
-    let digits = if left == "-" { "" } else { left };
-    let bytes = match hex::decode(alloc, digits) {
-        Ok(bytes) => bytes,
-        Err(FromHexError::OutOfMemory) => return Err(AllocError),
-        Err(_) => return Ok(None),
+    let Some(bytes) = bytes_of(alloc, left)? else {
+        return Ok(None);
     };
     if bytes.len() >= 1 << 32 {
         return Ok(None);
@@ -26,7 +23,7 @@ pub fn answer(alloc: Global, left: &str) -> Result<Option<String>, AllocError> {
     }
 }
 
-// What a job says: fonts, tables, patterns, exceptions and paragraphs.
+/// What a job says: fonts, tables, patterns, exceptions and paragraphs.
 fn job_text_of(alloc: Global, job: &Job) -> Result<String, AllocError> {
     let mut text = String::new(alloc);
     for font in job.fonts.as_slice() {

@@ -1,5 +1,5 @@
+use crate::bytes::bytes_of;
 use crate::tfm::font_of;
-use hex::FromHexError;
 use lig_kern::{Glyph, LigFault, run};
 use std::alloc::{AllocError, Global};
 use std::rt::Files;
@@ -10,18 +10,6 @@ fn flag(text: &str) -> Option<bool> {
         "0" => Some(false),
         "1" => Some(true),
         _ => None,
-    }
-}
-
-/// Codes in hexadecimal, `-` for none.
-fn codes(alloc: Global, text: &str) -> Result<Option<Vec<u8>>, AllocError> {
-    if text == "-" {
-        return Ok(Some(Vec::new(alloc)));
-    }
-    match hex::decode(alloc, text) {
-        Ok(codes) => Ok(Some(codes)),
-        Err(FromHexError::OutOfMemory) => Err(AllocError),
-        Err(_) => Ok(None),
     }
 }
 
@@ -61,7 +49,7 @@ pub fn answer<R: Files>(rt: &R, alloc: Global, line: &str) -> Result<Option<Stri
     let (Some(left), Some(right)) = (flag(left), flag(right)) else {
         return Ok(None);
     };
-    let Some(codes) = codes(alloc, codes_text)? else {
+    let Some(codes) = bytes_of(alloc, codes_text)? else {
         return Ok(None);
     };
     let Some(tfm) = font_of(rt, alloc, name)? else {

@@ -4,6 +4,7 @@
 //! agree with it. A line of an unknown kind or out of form is answered `unknown`.
 #![tactic(auto)]
 
+mod bytes;
 mod fonts;
 mod hyphenation;
 mod jobs;

@@ -1,14 +1,11 @@
-use hex::FromHexError;
+use crate::bytes::bytes_of;
 use job_lex::{LexFault, Tok, TokKind};
 use std::alloc::{AllocError, Global};
 
 /// The tokens of the bytes that `left` spells in hexadecimal, or their first fault.
 pub fn answer(alloc: Global, left: &str) -> Result<Option<String>, AllocError> {
-    let digits = if left == "-" { "" } else { left };
-    let bytes = match hex::decode(alloc, digits) {
-        Ok(bytes) => bytes,
-        Err(FromHexError::OutOfMemory) => return Err(AllocError),
-        Err(_) => return Ok(None),
+    let Some(bytes) = bytes_of(alloc, left)? else {
+        return Ok(None);
     };
     if bytes.len() >= 1 << 32 {
         return Ok(None);
@@ -23,7 +20,7 @@ pub fn answer(alloc: Global, left: &str) -> Result<Option<String>, AllocError> {
     }
 }
 
-// The tokens, each as its kind and the two places.
+/// The tokens, each as its kind and the two places.
 fn list(alloc: Global, toks: &[Tok]) -> Result<String, AllocError> {
     if toks.is_empty() {
         return String::from_str(alloc, "nothing");
