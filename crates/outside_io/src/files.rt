@@ -1,4 +1,7 @@
-ghost use Rattle.std.specs.Prelude.{◌≡◌, ◌<◌, ◌≤◌, length, IfOk, None};
+ghost use Rattle.std.specs.Prelude.{◌≡◌, ◌≢◌, ◌<◌, ◌≤◌, ℕ, List, length, IfOk, None};
+ghost use Rattle.std.specs.Io.KnownBytes.{Consumes, IsAtEnd};
+ghost use Rattle.std.specs.declared.io.ErrorKind.TheVariants.{NotFound};
+ghost use Rattle.outside_io.specs.declared.faults.ShelfFault.TheVariants.{Absent, Failed};
 ghost use Rattle.outside_io.specs.Counts.{Rose, RisesBy};
 ghost use Rattle.outside_io.specs.Reading.{OnAbsent, IfTooLong, OnFailed};
 ghost use Rattle.outside_io.specs.Tally.{IsZero, Tallied};
@@ -42,6 +45,9 @@ fn read_within<F: Read>(alloc: Global, reader: &mut F, limit: u64) -> Result<Ite
     ensures within { IfOk result (λ bytes. length bytes ≤ limit) }
     ensures excess { IfTooLong result (λ count. limit < count) }
     ensures present { OnAbsent result ⊥ }
+    // The bytes are all that the reader had left, and a refusal counts what was read.
+    ensures whole { IfOk result (λ bytes. Consumes (F.remaining reader.old) (F.remaining reader.new) bytes × IsAtEnd (F.remaining reader.new)) }
+    ensures counted { IfTooLong result (λ count. (bytes : List ℕ) × Consumes (F.remaining reader.old) (F.remaining reader.new) bytes × (length bytes ≡ count)) }
 {
     let mut piece = [0u8; PIECE];
     let mut bytes = Vec::new(alloc);
@@ -57,6 +63,18 @@ fn read_within<F: Read>(alloc: Global, reader: &mut F, limit: u64) -> Result<Ite
     })
 }
 
+/// What an error in opening a file says of the file.
+fn open_fault(kind: ErrorKind) -> ShelfFault
+    ensures absent { kind ≡ NotFound → result ≡ Absent }
+    ensures failed { kind ≢ NotFound → result ≡ Failed }
+{
+    if kind == ErrorKind::NotFound {
+        ShelfFault::Absent
+    } else {
+        ShelfFault::Failed
+    }
+}
+
 /// The bytes of a file of the current folder.
 fn read_file<R: Files>(
     rt: &R,
@@ -69,8 +87,7 @@ fn read_file<R: Files>(
 {
     match fs::open(rt, name) {
         Ok(mut file) => read_within(alloc, &mut file, limit),
-        Err(error) if error.kind() == ErrorKind::NotFound => Err(ShelfFault::Absent),
-        Err(_) => Err(ShelfFault::Failed),
+        Err(error) => Err(open_fault(error.kind())),
     }
 }
 
