@@ -1,0 +1,14 @@
+pub mod MemberLemmas
+pub mod OrderLemmas
+pub mod Covering
+pub mod OpenWays
+pub mod TriedNodes
+pub mod PutNodes
+pub mod Sweeping
+pub mod Ending
+pub mod Reaching
+pub mod Pruning
+pub mod MadeOfLines
+pub mod BestWays
+pub mod TableLemmas
+pub mod Loosening

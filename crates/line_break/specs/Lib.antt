@@ -1,0 +1,11 @@
+pub mod Pass
+pub mod Members
+pub mod Ways
+pub mod Best
+pub mod Taken
+pub mod Sweep
+pub mod Unpruned
+pub mod Laws
+pub mod Tables
+pub mod Listing
+pub mod Worked
