@@ -1,3 +1,4 @@
+//! Bytes in hexadecimal, as the cases spell them.
 use hex::FromHexError;
 use std::alloc::{AllocError, Global};
 

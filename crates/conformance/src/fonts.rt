@@ -1,7 +1,9 @@
 //! What a font at a size says of some characters.
 
-ghost use Rattle.std.specs.Prelude.{IfSome};
-ghost use Rattle.font_stock.specs.Sizes.{IsAsked};
+ghost use Rattle.std.specs.Prelude.{◌≡◌, true, IfSome, Contains};
+ghost use Rattle.std.specs.Option.{ForSome};
+ghost use Rattle.font_stock.specs.Sizes.{IsSize};
+ghost use Rattle.micro_num.specs.Scaling.{IsFixWord};
 
 use crate::tfm::font_of;
 use font_stock::{Expand, Font, FontCodes, FontRefused, Size};
@@ -9,8 +11,9 @@ use std::alloc::{AllocError, Global};
 use std::rt::Files;
 use tfm_read::Tfm;
 
-/// The size, the spaces and the characters of a font, as `tiny10 design 20,20,4 97:1000`, or the cause
-/// why it is refused. None where the line is out of form or names no font.
+/// The size, the spaces and the entries of a font, as `lig10 design 20,20,4 97:1000 111/-65536`: a
+/// character with its share in the expansion, or a kern after a character. Or the cause why the
+/// font is refused. None where the line is out of form or names no font.
 pub fn answer<R: Files>(rt: &R, alloc: Global, left: &str) -> Result<Option<String>, AllocError> {
     let Some((name, size, expand, settings)) = parts(left) else {
         return Ok(None);
@@ -43,7 +46,7 @@ fn parts(left: &str) -> Option<(&str, &str, &str, &str)> {
 
 /// A size as it is written: `design`, `at/` and scaled points, or `scaled/` and thousandths.
 fn size_of(text: &str) -> Option<Size>
-    ensures { IfSome result IsAsked }
+    ensures { IfSome result IsSize }
 {
     if text == "design" {
         return Some(Size::Design);
@@ -57,7 +60,7 @@ fn size_of(text: &str) -> Option<Size>
 }
 
 fn at(size: i32) -> Option<Size>
-    ensures { IfSome result IsAsked }
+    ensures { IfSome result IsSize }
 {
     if size >= 1 {
         Some(Size::At { size })
@@ -67,7 +70,7 @@ fn at(size: i32) -> Option<Size>
 }
 
 fn scaled(by: u32) -> Option<Size>
-    ensures { IfSome result IsAsked }
+    ensures { IfSome result IsSize }
 {
     if by >= 1 && by <= 32768 {
         Some(Size::Scaled { by })
@@ -80,13 +83,14 @@ fn scaled(by: u32) -> Option<Size>
 fn codes_of(settings: &str) -> Option<FontCodes> {
     let mut codes = FontCodes::plain();
     for setting in settings.split(' ') {
-        let (code, factor) = setting.split_once(':')?;
-        let code = code.parse::<u8>().ok()?;
-        let factor = factor.parse::<u16>().ok()?;
-        if factor > 1000 {
-            return None;
+        if let Some((code, factor)) = setting.split_once(':') {
+            let code = code.parse::<u8>().ok()?;
+            let factor = factor.parse::<u16>().ok()?;
+            if factor > 1000 {
+                return None;
+            }
+            codes.set_ef(code, factor);
         }
-        codes.set_ef(code, factor);
     }
     Some(codes)
 }
@@ -125,18 +129,21 @@ fn font_text(
     expand: Option<Expand>,
     settings: &str,
 ) -> Result<Option<String>, AllocError>
-    requires { IsAsked size }
+    requires { IsSize size }
 {
     match Font::at(alloc, tfm, size, codes, expand) {
-        Ok(font) => Ok(Some(numbers(alloc, &font, settings)?)),
+        Ok(font) => numbers(alloc, &font, settings),
         Err(FontRefused::SizePast { size }) => Ok(Some(format!(in alloc; "past {size}")?)),
         Err(FontRefused::WidePast { code }) => Ok(Some(format!(in alloc; "wide {code}")?)),
+        Err(FontRefused::WideKern { index }) => {
+            Ok(Some(format!(in alloc; "wide-kern {index}")?))
+        }
         Err(FontRefused::NoMemory) => Err(AllocError),
     }
 }
 
-/// The size, the spaces and the characters named in the settings.
-fn numbers(alloc: Global, font: &Font, settings: &str) -> Result<String, AllocError> {
+/// The size, the spaces and the answers to the entries. None where an entry is out of form.
+fn numbers(alloc: Global, font: &Font, settings: &str) -> Result<Option<String>, AllocError> {
     let size = font.size();
     let quad = font.quad();
     let extra = font.extra();
@@ -148,18 +155,69 @@ fn numbers(alloc: Global, font: &Font, settings: &str) -> Result<String, AllocEr
         "z {size} quad {quad} space {width} {stretch} {shrink} extra {extra}"
     )?;
     for setting in settings.split(' ') {
-        let Some(code) = code_of(setting) else {
-            continue;
+        let Some(answer) = entry(alloc, font, setting)? else {
+            return Ok(None);
         };
-        text.push_str(character(alloc, font, code)?.as_str())?;
+        text.push_str(answer.as_str())?;
     }
-    Ok(text)
+    Ok(Some(text))
 }
 
-/// The code that a setting names.
-fn code_of(setting: &str) -> Option<u8> {
-    let (code, _factor) = setting.split_once(':')?;
+/// The answer to an entry: a character, or a kern after one.
+fn entry(alloc: Global, font: &Font, setting: &str) -> Result<Option<String>, AllocError> {
+    if let Some(code) = number_before(setting, ':') {
+        return Ok(Some(character(alloc, font, code)?));
+    }
+    let Some(code) = number_before(setting, '/') else {
+        return Ok(None);
+    };
+    match fix_of(setting) {
+        Some(fix) => kern(alloc, font, code, fix),
+        None => Ok(None),
+    }
+}
+
+/// The code before a sign.
+fn number_before(setting: &str, sign: char) -> Option<u8> {
+    let (code, _rest) = setting.split_once(sign)?;
     code.parse::<u8>().ok()
+}
+
+/// The fix_word of a kern.
+fn fix_of(setting: &str) -> Option<i32>
+    ensures { IfSome result IsFixWord }
+{
+    let (_code, fix) = setting.split_once('/')?;
+    let fix = fix.parse::<i32>().ok()?;
+    if fix >= -(1 << 24) && fix < 1 << 24 {
+        Some(fix)
+    } else {
+        None
+    }
+}
+
+/// A kern, and how it stretches and shrinks after a character. None where the font may be expanded
+/// and has no such kern.
+fn kern(alloc: Global, font: &Font, code: u8, fix: i32) -> Result<Option<String>, AllocError>
+    requires { IsFixWord fix }
+{
+    if !may_expand(font, fix) {
+        return Ok(None);
+    }
+    let kern = font.kern(fix);
+    let stretch = font.kern_stretch(code, fix);
+    let shrink = font.kern_shrink(code, fix);
+    Ok(Some(format!(in alloc; " {kern},{stretch},{shrink}")?))
+}
+
+/// Whether the font has such a kern, or isn't expanded at all.
+fn may_expand(font: &Font, fix: i32) -> bool
+    ensures { result ≡ true → ForSome font.now.expand (λ e. Contains font.now.tfm.kerns fix) }
+{
+    match font.expand() {
+        Some(_) => font.tfm().kerns.as_slice().contains(&fix),
+        None => true,
+    }
 }
 
 /// The sizes of a character, and what it does where the font may be expanded.

@@ -1,3 +1,4 @@
+//! The cases of hyphen places.
 use items::Items;
 use liang_hyph::{Exception, Pattern, Patterns};
 use std::alloc::{AllocError, Global};

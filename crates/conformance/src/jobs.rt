@@ -1,8 +1,9 @@
+//! The cases of jobs: what a job says, printed item by item, or its first fault.
 use crate::bytes::bytes_of;
 use font_stock::Size;
 use job_text::{FontDecl, Job, JobFault};
 use liang_hyph::{Exception, Pattern};
-use micro_num::{Glue, Par, Params, Part, PartAt, Tables};
+use micro_num::{Glue, Par, Params, Part, PartAt, ShapeLine, Tables};
 use std::alloc::{AllocError, Global};
 
 /// The job that the bytes spell which `left` gives in hexadecimal, or its first fault.
@@ -164,6 +165,7 @@ fn add_par(alloc: Global, text: &mut String, par: &Par) -> Result<(), AllocError
         "paragraph noindent"
     })?;
     add_params(alloc, text, &par.params)?;
+    add_shape(alloc, text, par.shape.as_slice())?;
     text.push_str(":")?;
     let parts = par.parts.as_slice();
     if parts.is_empty() {
@@ -244,7 +246,30 @@ fn add_params(alloc: Global, text: &mut String, own: &Params) -> Result<(), Allo
     add_glue(alloc, text, "leftskip", own.leftskip, plain.leftskip)?;
     add_glue(alloc, text, "rightskip", own.rightskip, plain.rightskip)?;
     add_glue(alloc, text, "spaceskip", own.spaceskip, plain.spaceskip)?;
-    add_glue(alloc, text, "xspaceskip", own.xspaceskip, plain.xspaceskip)
+    add_glue(alloc, text, "xspaceskip", own.xspaceskip, plain.xspaceskip)?;
+    let settings = [
+        ("looseness", own.looseness, plain.looseness),
+        ("hangindent", own.hangindent, plain.hangindent),
+        ("hangafter", own.hangafter, plain.hangafter),
+    ];
+    for (name, value, standard) in settings {
+        if value != standard {
+            text.push_str(format!(in alloc; " {name}={value}")?.as_str())?;
+        }
+    }
+    Ok(())
+}
+
+// The lines of a shape, if there is one.
+fn add_shape(alloc: Global, text: &mut String, shape: &[ShapeLine]) -> Result<(), AllocError> {
+    let mut before = " shape ";
+    for line in shape {
+        let indent = line.indent;
+        let width = line.width;
+        text.push_str(format!(in alloc; "{before}{indent},{width}")?.as_str())?;
+        before = "/";
+    }
+    Ok(())
 }
 
 fn add_glue(
@@ -282,13 +307,13 @@ fn add_part(alloc: Global, text: &mut String, at: &PartAt) -> Result<(), AllocEr
         }
         Part::Penalty { value } => text.push_str(format!(in alloc; "P{value}")?.as_str())?,
         Part::Hyphen => text.push_str("H")?,
-        Part::Disc { pre, post, whole } => {
+        Part::Disc { lists } => {
             text.push_str("D")?;
-            add_hex(alloc, text, pre.as_slice())?;
+            add_hex(alloc, text, lists.pre())?;
             text.push_str("|")?;
-            add_hex(alloc, text, post.as_slice())?;
+            add_hex(alloc, text, lists.post())?;
             text.push_str("|")?;
-            add_hex(alloc, text, whole.as_slice())?;
+            add_hex(alloc, text, lists.whole())?;
         }
         Part::Font { font } => text.push_str(format!(in alloc; "F{font}")?.as_str())?,
     }

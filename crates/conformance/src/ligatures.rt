@@ -1,3 +1,4 @@
+//! The cases of runs by a font's ligature and kern programs.
 use crate::bytes::bytes_of;
 use crate::tfm::font_of;
 use lig_kern::{Glyph, LigFault, run};

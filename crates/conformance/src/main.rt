@@ -18,8 +18,8 @@ use std::io;
 use std::io::{BufRead, BufReader};
 use std::rt::Files;
 
-/// The answer to a line, or None where the line is of an unknown kind or out of form. Fonts are read
-/// from the current folder.
+/// The answer to a line, or None where the line is of an unknown kind or out of form. Fonts are
+/// read from the current folder.
 fn answer<R: Files>(rt: &R, alloc: Global, line: &str) -> Result<Option<String>, AllocError> {
     let Some((kind, left)) = line.split_once(' ') else {
         return Ok(None);

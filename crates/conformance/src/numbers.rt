@@ -1,3 +1,4 @@
+//! The cases of numbers: badness, scaling, rounding and units.
 use micro_num::{Unit, badness, round_decimals, round_over, scale, unit_to_sp, xn_over_d};
 use std::alloc::{AllocError, Global};
 
@@ -6,8 +7,8 @@ const PRODUCT_LIMIT: i64 = 1 << 31;
 
 const QUOTIENT_LIMIT: i128 = 1 << 120;
 
-/// The answer to a call of a number routine, as `badness 1 0`, or None where it is out of form or out
-/// of the call's range.
+/// The answer to a call of a number routine, as `badness 1 0`, or None where it is out of form or
+/// out of the call's range.
 pub fn answer(alloc: Global, left: &str) -> Result<Option<String>, AllocError> {
     let Some((call, operands)) = left.split_once(' ') else {
         return Ok(None);

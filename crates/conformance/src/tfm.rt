@@ -45,8 +45,8 @@ fn width_sum(font: &Tfm) -> i64 {
     sum
 }
 
-/// Checksum, design size, counts of characters, ligature words and kerns, boundaries, sum of widths and
-/// parameters.
+/// Checksum, design size, counts of characters, ligature words and kerns, boundaries, sum of widths
+/// and parameters.
 fn font_text(alloc: Global, font: &Tfm) -> Result<String, AllocError> {
     let characters = font
         .chars

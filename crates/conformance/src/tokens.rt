@@ -1,3 +1,4 @@
+//! The cases of the tokens of a job.
 use crate::bytes::bytes_of;
 use job_lex::{LexFault, Tok, TokKind};
 use std::alloc::{AllocError, Global};

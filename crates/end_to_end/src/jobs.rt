@@ -6,6 +6,7 @@ use pdfmicro_run::Answer;
 use std::alloc::Global;
 use std::test::Fail;
 use std::thread::Threads;
+use tfm_read::TfmFaultKind;
 
 /// Three letters on a line of 100pt.
 const THREE_LETTERS: &[u8] = b"\\font\\f=tiny10 \\f\n\\hsize=100pt\n\\noindent abc\n";
@@ -238,7 +239,7 @@ fn each_font_has_its_answer(rt: HostRuntime) -> Result<(), Fail> {
         run.answer,
         Answer::Font {
             font: 0,
-            kind: 1,
+            kind: TfmFaultKind::Short,
             word: 25
         }
     );

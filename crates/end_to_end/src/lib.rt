@@ -1,8 +1,11 @@
-//! Whole runs, over files and outputs in memory: jobs with their answers, and an outside that fails.
+//! Whole runs, over files and outputs in memory: jobs with their answers, and an outside that
+//! fails; and the fonts that they are set in, read, refused and run.
 //!
 //! The crate has tests alone. What they expect was worked out by hand from the formats.
 #![tactic(auto)]
 
+#[cfg(test)]
+mod code_runs;
 #[cfg(test)]
 mod fonts;
 #[cfg(test)]
@@ -11,3 +14,7 @@ mod jobs;
 mod outside;
 #[cfg(test)]
 mod runs;
+#[cfg(test)]
+mod tfm_faults;
+#[cfg(test)]
+mod tfm_reads;

@@ -1,5 +1,5 @@
+pub mod Causes
 pub mod Characters
 pub mod Limits
-pub mod Causes
 pub mod Sizes
 pub mod WholeSteps

@@ -1,11 +1,11 @@
--- The font that is made of its metrics, a size and its settings.
+-- The font that is made of its metrics, a size and its settings: words of this project's own.
 use Rattle.std.specs.Prelude.{◌≡◌, Option, Some, None, Result, Ok, Err}
 use Rattle.tfm_read.specs.declared.tfm.Tfm.{Tfm}
 use Rattle.font_stock.specs.declared.codes.FontCodes.{FontCodes}
 use Rattle.font_stock.specs.declared.expand.Expand.{Expand}
 use Rattle.font_stock.specs.declared.font.Font.{Font}
 use Rattle.font_stock.specs.declared.refused.FontRefused.{FontRefused}
-use Rattle.font_stock.specs.declared.refused.FontRefused.TheVariants.{NoMemory, SizePast, WidePast}
+use Rattle.font_stock.specs.declared.refused.FontRefused.TheVariants.{NoMemory}
 use Rattle.font_stock.specs.declared.size.Size.{Size}
 use Rattle.font_stock.specs.Refusals.{refusal_of}
 use Rattle.font_stock.specs.Sizes.{size_of}

@@ -1,5 +1,5 @@
--- What the settings of a font are kept to.
-use Rattle.std.specs.Prelude.{◌≡◌, ℕ, ◌+◌, ◌/◌, ◌%◌, ◌<◌, ◌≤◌, ℤ, pos, neg_ℤ, ◌≤ℤ◌}
+-- What the settings of a font are kept to (pdfTeX manual, `\lpcode`, `\efcode` and `\pdffontexpand`).
+use Rattle.std.specs.Prelude.{◌≡◌, ℕ, ◌+◌, ◌/◌, ◌%◌, ◌≤◌, ℤ, pos, neg_ℤ, ◌≤ℤ◌}
 
 -- a hang in thousandths of the quad
 pub record IsHang (hang : ℤ) : Type 0 where

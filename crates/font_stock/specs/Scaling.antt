@@ -1,5 +1,5 @@
--- The table of a font's characters at a size.
-use Rattle.std.specs.Prelude.{◌≡◌, ℕ, ◌<◌, ℤ, pos, List, length, slice_index_or, slice_index, Option, if◌then◌else◌}
+-- The table of a font's characters at a size (TeX: The Program, section 571).
+use Rattle.std.specs.Prelude.{◌≡◌, ℕ, ◌<◌, ℤ, List, length, slice_index_or, slice_index, Option}
 use Rattle.micro_num.specs.Scaling.{scaled}
 use Rattle.tfm_read.specs.declared.character.CharInfo.{CharInfo}
 use Rattle.tfm_read.specs.declared.tfm.Tfm.{Tfm}

@@ -1,3 +1,4 @@
+//! What a job says of the characters of a font (pdfTeX manual, `\lpcode`, `\rpcode` and `\efcode`).
 ghost use Rattle.std.specs.Prelude.{All};
 ghost use Rattle.font_stock.specs.Ranges.{IsHang, IsFactor};
 
@@ -22,8 +23,8 @@ impl FontCodes {
     ghost use Rattle.std.specs.Prelude.{◌≡◌, pos, replicate, slice_set};
     ghost use Rattle.font_stock.specs.Ranges.{IsHang, IsFactor};
 
-    /// What holds before a job says anything: nothing hangs, each character is expanded in full, and
-    /// the hyphen character is the hyphen, code 45.
+    /// What holds before a job says anything: nothing hangs, each character is expanded in full,
+    /// and the hyphen character is the hyphen, code 45.
     pub fn plain() -> FontCodes
         ensures left { result.left ≡ replicate 256 (pos 0) }
         ensures right { result.right ≡ replicate 256 (pos 0) }
@@ -35,6 +36,18 @@ impl FontCodes {
             right: [0; 256],
             ef: [1000; 256],
             hyphen: 45,
+        }
+    }
+
+    /// A copy of the settings.
+    pub fn copy(&self) -> FontCodes
+        ensures { result ≡ self.now }
+    {
+        FontCodes {
+            left: self.left,
+            right: self.right,
+            ef: self.ef,
+            hyphen: self.hyphen,
         }
     }
 

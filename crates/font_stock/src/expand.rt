@@ -1,11 +1,13 @@
+//! How far a font may be expanded, and by how much it is at a ratio (pdfTeX manual,
+//! `\pdffontexpand` and `\efcode`).
 ghost use Rattle.font_stock.specs.Ranges.{AreLimits};
 
 use crate::steps::whole_steps;
 
 /// How far a font may be expanded, in thousandths of its widths: from -shrink to stretch, in
 /// multiples of step (pdfTeX manual, `\pdffontexpand`). The stretch is at most 1000, the shrink at
-/// most 500, the step from 1 to 100; both limits are multiples of the step, and together they are at
-/// most 128 steps.
+/// most 500, the step from 1 to 100; both limits are multiples of the step, and together they are
+/// at most 128 steps.
 #[derive(Clone, Copy, Debug, PartialEq, Eq)]
 pub struct Expand {
     pub stretch: u16,

@@ -1,9 +1,15 @@
-ghost use Rattle.std.specs.Prelude.{◌≡◌, ◌<◌, ◌≤◌, ℕ, ℤ, pos, unsigned_abs, slice_index, slice_index_or, Some, None, MatchOption, IfSome};
+//! A font at a size, and all that is asked of it. Each number is its formula over the fix_words of
+//! the font's metrics (TeX: The Program, sections 539 to 576; pdfTeX manual; Thành,
+//! Micro-typographic extensions to the TeX typesetting system).
+ghost use Rattle.std.specs.Prelude.{◌≡◌, ◌<◌, ◌≤◌, ◌^◌, ℕ, ℤ, pos, unsigned_abs, slice_index};
+ghost use Rattle.std.specs.Prelude.{slice_index_or, Some, None, MatchOption, IfSome, Contains};
+ghost use Rattle.std.specs.Option.{ForSome};
 ghost use Rattle.micro_num.specs.Scaling.{IsFixWord, IsFontSize, scaled};
 ghost use Rattle.micro_num.specs.Expansion.{expanded};
 ghost use Rattle.tfm_read.specs.Ranges.{exists_at};
 ghost use Rattle.font_stock.specs.Fonts.{char_of, param_at, stretch_at, shrink_at, hang_at};
-ghost use Rattle.font_stock.specs.Refusals.{too_wide};
+ghost use Rattle.font_stock.specs.Fonts.{hyphen_of};
+ghost use Rattle.font_stock.specs.Refusals.{too_wide, wide_kern};
 ghost use Rattle.font_stock.specs.Scaling.{AreScaled, scaled_char};
 ghost use Rattle.font_stock.specs.Steps.{step_of, IsStepOf};
 
@@ -12,8 +18,8 @@ use crate::expand::Expand;
 use crate::refused::FontRefused;
 use crate::scaled::ScaledChar;
 use crate::size::Size;
-use crate::table::scaled_chars;
-use crate::widths::too_wide_code;
+use crate::table::{scaled_chars, shrink, stretch};
+use crate::widths::{too_wide_code, too_wide_kern};
 use items::Items;
 use micro_num::{Glue, Sp, scale, thousandths};
 use std::alloc::Global;
@@ -34,25 +40,27 @@ pub struct Font {
     chars: Items<ScaledChar>,
     pub ghost size_fits: { IsFontSize size },
     pub ghost widths_fit: { too_wide expand tfm.chars ≡ None },
+    pub ghost kerns_fit: { wide_kern expand tfm.kerns ≡ None },
     ghost quad_is: { quad ≡ param_at tfm 5 size },
     ghost chars_are: { AreScaled tfm codes expand size 256 chars },
 }
 
 impl Font {
-    ghost use Rattle.std.specs.Prelude.{◌≡◌, ◌<◌, ℕ, ℤ, None};
+    ghost use Rattle.std.specs.Prelude.{◌≡◌, ◌<◌, ℕ, ℤ, None, Contains};
     ghost use Rattle.std.specs.Option.{ForSome};
     ghost use Rattle.micro_num.specs.Expansion.{expanded};
     ghost use Rattle.micro_num.specs.Scaling.{IsFixWord, IsFontSize};
     ghost use Rattle.font_stock.specs.Fonts.{char_of};
     ghost use Rattle.font_stock.specs.Making.{AnswersFont};
-    ghost use Rattle.font_stock.specs.Refusals.{too_wide};
+    ghost use Rattle.font_stock.specs.Refusals.{too_wide, wide_kern};
     ghost use Rattle.font_stock.specs.Scaling.{AreScaled};
-    ghost use Rattle.font_stock.specs.Sizes.{IsAsked};
+    ghost use Rattle.font_stock.specs.Sizes.{IsSize};
     ghost use Rattle.font_stock.specs.Steps.{IsStepOf};
 
-    /// The font of metrics at a size. It is refused, in this order, where the size is 2^27 sp or more,
-    /// and where it may be expanded and a character is too wide for a fix_word at the greatest
-    /// stretch.
+    /// The font of metrics at a size, which is at least 1 sp, or 1 to 32768 thousandths of the
+    /// design size. It is refused, in this order, where the size is 2^27 sp or more; where it may
+    /// be expanded and a character is too wide for a fix_word at the greatest stretch; and where a
+    /// kern is.
     pub fn at(
         alloc: Global,
         tfm: Tfm,
@@ -60,7 +68,7 @@ impl Font {
         codes: FontCodes,
         expand: Option<Expand>,
     ) -> Result<Font, FontRefused>
-        requires { IsAsked size }
+        requires { IsSize size }
         ensures { AnswersFont tfm size codes expand result }
     {
         let asked = size.of(tfm.design);
@@ -69,6 +77,9 @@ impl Font {
         }
         if let Some(code) = too_wide_code(&tfm, expand) {
             return Err(FontRefused::WidePast { code });
+        }
+        if let Some(index) = too_wide_kern(&tfm, expand) {
+            return Err(FontRefused::WideKern { index });
         }
         let size = asked as Sp;
         let chars = scaled_chars(alloc, &tfm, &codes, expand, size)?;
@@ -85,6 +96,7 @@ impl Font {
     ) -> Font
         requires size { IsFontSize size }
         requires widths { too_wide expand tfm.chars ≡ None }
+        requires kerns { wide_kern expand tfm.kerns ≡ None }
         requires chars { AreScaled tfm codes expand size 256 chars }
         ensures metrics { result.tfm ≡ tfm }
         ensures size { result.size ≡ size }
@@ -102,10 +114,21 @@ impl Font {
         }
     }
 
-    /// The law of the widths: that of each character is a fix_word, at each step of an instance too.
+    /// The law of the widths: that of each character is a fix_word, at each step of an instance
+    /// too.
     pub fn widths_are_fix_words(&self)
         ensures own { (code : ℕ) → code < 256 → IsFixWord (char_of self.now.tfm code).width }
-        ensures expanded { (code : ℕ) (step : ℤ) → code < 256 → ForSome self.now.expand (λ e. IsStepOf e step → IsFixWord (expanded (char_of self.now.tfm code).width step)) }
+        ensures expanded { (code : ℕ) (step : ℤ) → code < 256 → ForSome self.now.expand (λ e.
+            IsStepOf e step → IsFixWord (expanded (char_of self.now.tfm code).width step)) }
+    {
+        let _ = &self.size;
+    }
+
+    /// The law of the kerns: each is a fix_word, at each step of an instance too.
+    pub fn kerns_are_fix_words(&self)
+        ensures own { (fix : ℤ) → Contains self.now.tfm.kerns fix → IsFixWord fix }
+        ensures expanded { (fix step : ℤ) → Contains self.now.tfm.kerns fix →
+            ForSome self.now.expand (λ e. IsStepOf e step → IsFixWord (expanded fix step)) }
     {
         let _ = &self.size;
     }
@@ -180,12 +203,15 @@ impl Font {
         scale(self.tfm.params[6], self.size)
     }
 
-    /// How much wider a character gets at the greatest stretch, in its share of the expansion. It is 0
-    /// of a font that may not be stretched, and negative of a character with a negative width.
+    /// How much wider a character gets at the greatest stretch, in its share of the expansion. It
+    /// is 0 of a font that may not be stretched, and negative of a character with a negative width.
     #[tactic(auto, unfolding(crate::specs::Scaling::scaled_char))]
     pub fn stretch_of(&self, code: u8) -> i64
-        ensures exact { result ≡ stretch_at self.now.expand (slice_index self.now.codes.ef code) (char_of self.now.tfm code).width self.now.size }
+        ensures exact { let font = self.now in
+            result ≡ stretch_at font.expand (slice_index font.codes.ef code)
+            (char_of font.tfm code).width font.size }
         ensures unstretched { IfSome self.now.expand (λ e. e.stretch ≡ 0 → result ≡ pos 0) }
+        ensures small { unsigned_abs result ≤ 2 ^ 32 }
     {
         self.scaled(code).stretch
     }
@@ -193,10 +219,36 @@ impl Font {
     /// How much narrower a character gets at the greatest shrink, as for the stretch.
     #[tactic(auto, unfolding(crate::specs::Scaling::scaled_char))]
     pub fn shrink_of(&self, code: u8) -> i64
-        ensures exact { result ≡ shrink_at self.now.expand (slice_index self.now.codes.ef code) (char_of self.now.tfm code).width self.now.size }
+        ensures exact { let font = self.now in
+            result ≡ shrink_at font.expand (slice_index font.codes.ef code)
+            (char_of font.tfm code).width font.size }
         ensures unshrunk { IfSome self.now.expand (λ e. e.shrink ≡ 0 → result ≡ pos 0) }
+        ensures small { unsigned_abs result ≤ 2 ^ 32 }
     {
         self.scaled(code).shrink
+    }
+
+    /// How much a kern grows at the greatest stretch, in the share of the character before it. The
+    /// kern is a fix_word, and one of the font's where that may be expanded.
+    pub fn kern_stretch(&self, code: u8, fix: i32) -> i64
+        requires { ForSome self.now.expand (λ e. Contains self.now.tfm.kerns fix) }
+        ensures exact { let font = self.now in
+            result ≡ stretch_at font.expand (slice_index font.codes.ef code) fix font.size }
+        ensures unstretched { IfSome self.now.expand (λ e. e.stretch ≡ 0 → result ≡ pos 0) }
+        ensures small { unsigned_abs result ≤ 2 ^ 32 }
+    {
+        stretch(fix, self.codes.ef[code as usize], self.expand, self.size)
+    }
+
+    /// How much a kern loses at the greatest shrink, as for the stretch.
+    pub fn kern_shrink(&self, code: u8, fix: i32) -> i64
+        requires { ForSome self.now.expand (λ e. Contains self.now.tfm.kerns fix) }
+        ensures exact { let font = self.now in
+            result ≡ shrink_at font.expand (slice_index font.codes.ef code) fix font.size }
+        ensures unshrunk { IfSome self.now.expand (λ e. e.shrink ≡ 0 → result ≡ pos 0) }
+        ensures small { unsigned_abs result ≤ 2 ^ 32 }
+    {
+        shrink(fix, self.codes.ef[code as usize], self.expand, self.size)
     }
 
     /// The step, in thousandths, that a character takes in a line whose ratio of thousandths of the
@@ -204,7 +256,8 @@ impl Font {
     #[tactic(auto, unfolding(crate::specs::Steps::step_of))]
     pub fn step_for(&self, code: u8, ratio: i32) -> i32
         requires { unsigned_abs ratio ≤ 1000 }
-        ensures exact { result ≡ step_of self.now.expand (slice_index self.now.codes.ef code) ratio }
+        ensures exact { let font = self.now in
+            result ≡ step_of font.expand (slice_index font.codes.ef code) ratio }
         ensures instance { MatchOption self.now.expand (result ≡ pos 0) (λ e. IsStepOf e result) }
     {
         match self.expand {
@@ -215,14 +268,18 @@ impl Font {
 
     /// How far a character hangs into the left margin.
     pub fn left_hang(&self, code: u8) -> i64
-        ensures { result ≡ hang_at self.now.tfm self.now.size (slice_index_or self.now.codes.left code (pos 0)) }
+        ensures exact { let font = self.now in
+            result ≡ hang_at font.tfm font.size (slice_index_or font.codes.left code (pos 0)) }
+        ensures small { unsigned_abs result ≤ 2 ^ 31 }
     {
         thousandths(self.quad as i64, self.codes.left[code as usize] as i64)
     }
 
     /// How far a character hangs into the right margin.
     pub fn right_hang(&self, code: u8) -> i64
-        ensures { result ≡ hang_at self.now.tfm self.now.size (slice_index_or self.now.codes.right code (pos 0)) }
+        ensures exact { let font = self.now in
+            result ≡ hang_at font.tfm font.size (slice_index_or font.codes.right code (pos 0)) }
+        ensures small { unsigned_abs result ≤ 2 ^ 31 }
     {
         thousandths(self.quad as i64, self.codes.right[code as usize] as i64)
     }
@@ -255,9 +312,20 @@ impl Font {
     {
         self.codes.hyphen
     }
+
+    /// The hyphen character, where its number is a code from 0 to 255 that the font has.
+    pub fn hyphen_code(&self) -> Option<u8>
+        ensures { result ≡ hyphen_of self.now.tfm self.now.codes.hyphen }
+    {
+        let code = u8::try_from(self.codes.hyphen).ok()?;
+        if self.exists(code) { Some(code) } else { None }
+    }
+
     /// What the table says of a character.
     fn scaled(&self, code: u8) -> &ScaledChar
-        ensures { result.now ≡ scaled_char self.now.expand self.now.size (slice_index self.now.codes.ef code) (char_of self.now.tfm code) }
+        ensures { let font = self.now in
+            result.now ≡ scaled_char font.expand font.size (slice_index font.codes.ef code)
+            (char_of font.tfm code) }
     {
         &self.chars.as_slice()[code as usize]
     }

@@ -1,3 +1,4 @@
+//! Why a font can't be had at a size.
 ghost use Rattle.std.specs.Prelude.{◌≡◌};
 ghost use Rattle.font_stock.specs.declared.refused.FontRefused.TheVariants.{NoMemory};
 
@@ -10,9 +11,12 @@ use std::fmt;
 pub enum FontRefused {
     /// The size is 2^27 sp or more.
     SizePast { size: i64 },
-    /// At the greatest stretch the width of this character isn't from -16 to 16 times the size. It is
-    /// the least code of which that is true.
+    /// At the greatest stretch the width of this character isn't from -16 to 16 times the size. It
+    /// is the least code of which that is true.
     WidePast { code: u8 },
+    /// At the greatest stretch this kern isn't from -16 to 16 times the size. It is the least index
+    /// of which that is true.
+    WideKern { index: u32 },
     /// Memory ran out.
     NoMemory,
 }
@@ -22,6 +26,7 @@ impl fmt::Display for FontRefused {
         match self {
             FontRefused::SizePast { size } => write!(f, "a size of {size} sp is too large"),
             FontRefused::WidePast { code } => write!(f, "character {code} is too wide"),
+            FontRefused::WideKern { index } => write!(f, "kern {index} is too wide"),
             FontRefused::NoMemory => write!(f, "no memory"),
         }
     }

@@ -1,3 +1,4 @@
+//! What a font at a size says of one character.
 use micro_num::Sp;
 
 /// What a font at a size says of a character, in sp.

@@ -1,3 +1,4 @@
+//! The size at which a job asks for a font (TeX: The Program, section 568).
 use micro_num::{Sp, xn_over_d};
 
 /// The size at which a font is asked for.
@@ -14,13 +15,13 @@ pub enum Size {
 impl Size {
     ghost use Rattle.std.specs.Prelude.{◌≡◌, pos, ◌≤ℤ◌};
     ghost use Rattle.tfm_read.specs.Ranges.{IsDesignSize};
-    ghost use Rattle.font_stock.specs.Sizes.{IsAsked, size_of};
+    ghost use Rattle.font_stock.specs.Sizes.{IsSize, size_of};
 
-    /// The size in sp that is asked for of a font with a design size in sp. Thousandths of the design
-    /// size are cut.
+    /// The size in sp that is asked for of a font with a design size in sp. Thousandths of the
+    /// design size are cut.
     #[tactic(auto, unfolding(crate::specs::Sizes::size_of))]
     pub fn of(self, design: Sp) -> i64
-        requires asked { IsAsked self }
+        requires asked { IsSize self }
         requires design { IsDesignSize design }
         ensures exact { result ≡ size_of design self }
         ensures some { pos 1 ≤ℤ result }

@@ -1,3 +1,4 @@
+//! Whole steps of expansion (pdfTeX manual, `\pdffontexpand`).
 ghost use Rattle.std.specs.Prelude.{◌≡◌, ◌≤◌, ◌<◌, ◌*◌, ◌%◌};
 ghost use Rattle.micro_num.specs.Rounding.{nearest};
 

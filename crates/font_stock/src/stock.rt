@@ -1,3 +1,4 @@
+//! The fonts of a job, numbered in the order of declaration.
 ghost use Rattle.std.specs.Prelude.{◌≡◌, ◌≤◌, ◌<◌, Some, length, vec_len, slice_get};
 
 use crate::font::Font;

@@ -1,3 +1,6 @@
+//! The table of a font's characters at a size, which is worked out once: each number of it is a
+//! rounded share of the fix_words (TeX: The Program, section 571; Thành, Micro-typographic
+//! extensions to the TeX typesetting system).
 ghost use Rattle.std.specs.Prelude.{◌≡◌, ◌≤◌, pos, neg_ℤ, ◌≤ℤ◌, ◌-ℤ◌, None, IfOk};
 ghost use Rattle.std.specs.Option.{ForSome};
 ghost use Rattle.micro_num.specs.Expansion.{expanded, thousandths_of, width_at};
@@ -28,28 +31,9 @@ pub fn scaled_chars(
 {
     let mut chars = Vec::with_capacity(alloc, 256)?;
     for (code, factor) in codes.ef.iter().enumerate() {
-        chars.push(scaled(char_info(tfm, code as u8), *factor, expand, z))?;
+        chars.push(scaled(tfm.char_info(code as u8), *factor, expand, z))?;
     }
     Ok(Items::from_vec(chars))
-}
-
-/// What the font says of a code; a character that it doesn't have is of no size.
-#[tactic(auto, unfolding(crate::specs::Fonts::char_of))]
-fn char_info(tfm: &Tfm, code: u8) -> CharInfo
-    ensures { result ≡ char_of tfm.now code }
-{
-    let info = tfm.char_info(code);
-    if info.exists {
-        info
-    } else {
-        CharInfo {
-            exists: false,
-            width: 0,
-            height: 0,
-            depth: 0,
-            program: None,
-        }
-    }
 }
 
 /// A character at a size, with its share in the expansion.
@@ -74,7 +58,7 @@ fn scaled(info: CharInfo, factor: u16, expand: Option<Expand>, z: Sp) -> ScaledC
 
 /// How much a width grows at the greatest stretch.
 #[tactic(auto, unfolding(crate::specs::Fonts::stretch_at))]
-fn stretch(w: i32, factor: u16, expand: Option<Expand>, z: Sp) -> i64
+pub fn stretch(w: i32, factor: u16, expand: Option<Expand>, z: Sp) -> i64
     requires factor { factor ≤ 1000 }
     requires expanded { ForSome expand (λ e. IsFixWord (expanded w (pos e.stretch))) }
     requires size { IsFontSize z }
@@ -91,7 +75,7 @@ fn stretch(w: i32, factor: u16, expand: Option<Expand>, z: Sp) -> i64
 
 /// How much a width shrinks at the greatest shrink.
 #[tactic(auto, unfolding(crate::specs::Fonts::shrink_at))]
-fn shrink(w: i32, factor: u16, expand: Option<Expand>, z: Sp) -> i64
+pub fn shrink(w: i32, factor: u16, expand: Option<Expand>, z: Sp) -> i64
     requires factor { factor ≤ 1000 }
     requires expanded { ForSome expand (λ e. IsFixWord (expanded w (pos e.stretch))) }
     requires size { IsFontSize z }

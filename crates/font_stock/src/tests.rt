@@ -1,16 +1,17 @@
+//! Values of small fonts, worked out by hand.
 use super::*;
 use std::alloc::{AllocError, Global};
 use std::test::Fail;
 use tfm_read::{Tfm, TfmFault, read_tfm};
 
-/// A font of the codes 33 to 126, each of this width and half a design size high.
-fn font_file(alloc: Global, width: u32) -> Result<Vec<u8>, AllocError> {
+/// A font of the codes 33 to 126, each of this width and half a design size high, with one kern.
+fn font_file(alloc: Global, width: u32, kern: u32) -> Result<Vec<u8>, AllocError> {
     let mut words = vec![in alloc;
-        115 << 16 | 2,
+        116 << 16 | 2,
         33 << 16 | 126,
         2 << 16 | 2,
         1 << 16 | 1,
-        0,
+        1,
         7,
         0,
         10485760,
@@ -18,7 +19,7 @@ fn font_file(alloc: Global, width: u32) -> Result<Vec<u8>, AllocError> {
     for _ in 33..127 {
         words.push(0x01100000)?;
     }
-    words.extend_from_slice(&[0, width, 0, 524288, 0, 0])?;
+    words.extend_from_slice(&[0, width, 0, 524288, 0, 0, kern])?;
     words.extend_from_slice(&[0, 262144, 131072, 65536, 524288, 1048576, 0])?;
     let mut bytes = Vec::new(alloc);
     for word in &words {
@@ -27,9 +28,14 @@ fn font_file(alloc: Global, width: u32) -> Result<Vec<u8>, AllocError> {
     Ok(bytes)
 }
 
-/// The metrics of that font.
+/// The metrics of that font, whose kern is -1/16 of the size.
 fn metrics(alloc: Global, width: u32) -> Result<Tfm, TfmFault> {
-    let bytes = font_file(alloc, width)?;
+    kerned(alloc, width, 0xffff0000)
+}
+
+/// The metrics of that font.
+fn kerned(alloc: Global, width: u32, kern: u32) -> Result<Tfm, TfmFault> {
+    let bytes = font_file(alloc, width, kern)?;
     read_tfm(alloc, &bytes)
 }
 
@@ -88,6 +94,7 @@ fn the_numbers_of_a_font_at_its_design_size(rt: HostRuntime) -> Result<(), Fail>
     assert_eq!(rt; font.right_hang(b','), 327680);
     assert_eq!(rt; font.left_hang(b'a'), -32768);
     assert_eq!(rt; font.hyphen(), 45);
+    assert_eq!(rt; font.hyphen_code(), Some(45));
     assert_eq!(rt; font.tfm().design, 655360);
     Ok(())
 }
@@ -138,6 +145,38 @@ fn the_first_character_that_gets_too_wide_is_named(rt: HostRuntime) -> Result<()
     let tfm = metrics(alloc, 0x00ffffff)?;
     let font = Font::at(alloc, tfm, Size::Design, FontCodes::plain(), None)?;
     assert_eq!(rt; font.stretch_of(33), 0);
+    let tfm = kerned(alloc, 0x00ffffff, 0x00ffffff)?;
+    let refused = Font::at(alloc, tfm, Size::Design, FontCodes::plain(), expand);
+    assert_eq!(rt; refused.err(), Some(FontRefused::WidePast { code: 33 }));
+    let tfm = kerned(alloc, 524288, 0x00ffffff)?;
+    let refused = Font::at(alloc, tfm, Size::Design, FontCodes::plain(), expand);
+    assert_eq!(rt; refused.err(), Some(FontRefused::WideKern { index: 0 }));
+    Ok(())
+}
+
+/// How much a kern stretches and shrinks after a character, where it is one of the font's.
+fn growth(font: &Font, code: u8, fix: i32) -> Option<(i64, i64)> {
+    if font.tfm().kerns.as_slice().contains(&fix) {
+        Some((font.kern_stretch(code, fix), font.kern_shrink(code, fix)))
+    } else {
+        None
+    }
+}
+
+#[test]
+fn kerns_expand_with_the_character_before_them(rt: HostRuntime) -> Result<(), Fail> {
+    let alloc = rt.alloc();
+    let mut codes = FontCodes::plain();
+    codes.set_ef(b'b', 500);
+    let expand = Some(Expand {
+        stretch: 20,
+        shrink: 20,
+        step: 1,
+    });
+    let font = Font::at(alloc, metrics(alloc, 524288)?, Size::Design, codes, expand)?;
+    assert_eq!(rt; growth(&font, b'a', -65536), Some((-820, -819)));
+    assert_eq!(rt; growth(&font, b'b', -65536), Some((-410, -410)));
+    assert_eq!(rt; growth(&font, b'a', 1), None);
     Ok(())
 }
 

@@ -1,4 +1,9 @@
-ghost use Rattle.std.specs.Prelude.{◌≡◌, ◌++◌, ◌∷◌, ◌+◌, ◌<◌, [], length, IfOk, IfErr, OnOk, OnErr, slice_get, option_copied};
+//! A `Vec` whose contract is the plain list of its elements: nothing holds of it but that.
+//!
+//! A copy of elements that aren't `Copy` takes a function that gives a copy of one; the copy of the
+//! list then equals its source.
+ghost use Rattle.std.specs.Prelude.{◌≡◌, ◌++◌, ◌∷◌, ◌+◌, ◌<◌, [], length, IfOk, IfErr, OnOk, OnErr};
+ghost use Rattle.std.specs.Prelude.{slice_get, option_copied};
 
 use std::alloc::{AllocError, AllocFailed, Global};
 use std::marker::Model;
@@ -73,5 +78,23 @@ impl<T: Copy> Items<T> {
     {
         let list = Vec::from_slice(alloc, elements)?;
         Ok(Items { list })
+    }
+}
+
+impl<T: Drop> Items<T> {
+    /// A list with a copy of each element of a slice, in order, for elements that aren't `Copy`.
+    /// `copy` gives a copy of one element, or fails for want of memory.
+    pub fn from_copies<F>(alloc: Global, elements: &[T], copy: F) -> Result<Items<T>, AllocError>
+    where
+        F: Fn(&T) -> Result<T, AllocError>,
+        requires callable { F.IsAlwaysCallable copy }
+        requires copies { (x made : _) → F.post copy x made → IfOk made (λ twin. twin ≡ x.now) }
+        ensures { IfOk result (λ list. list ≡ elements.now) }
+    {
+        let mut list = Items::from_vec(Vec::with_capacity(alloc, elements.len())?);
+        for element in elements {
+            list.push(copy(element)?)?;
+        }
+        Ok(list)
     }
 }

@@ -1,3 +1,4 @@
+//! A `String` whose contract is the plain list of its bytes: a name of a file, a word of a job.
 ghost use Rattle.std.specs.Prelude.{◌≡◌, length, IfOk, string_bytes};
 
 use std::alloc::{AllocError, Global};

@@ -1,4 +1,4 @@
--- What `tokens` answers: the tokens, the first fault, or want of memory.
+-- What `tokens` answers: the tokens, the first fault, or want of memory. This is the crate's own.
 use Rattle.std.specs.Prelude.{◌≡◌, ℕ, List, Result, Ok, Err}
 use Rattle.job_lex.specs.declared.token.Tok.{Tok}
 use Rattle.job_lex.specs.declared.fault.LexFault.{LexFault}

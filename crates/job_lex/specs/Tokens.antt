@@ -1,4 +1,5 @@
--- The tokens of a job: what each kind is, the lists of adjoining tokens, and where no token begins.
+-- The tokens of a job: what each kind is, the lists of adjoining tokens, and where no token begins. The job
+-- language is this project's own, after the way in which TeX reads a file (TeX: The Program, sections 303 to 356).
 use Rattle.std.specs.Prelude.{◌≡◌, ◌≢◌, ℕ, ◌+◌, ◌<◌, ◌≤◌, ◌⊎◌, List, [], ◌∷◌, length, slice_index, slice_range}
 use Rattle.job_lex.specs.declared.category.Category.{Category}
 use Rattle.job_lex.specs.declared.category.Category.TheVariants.{Escape, BeginGroup, EndGroup, Active, Comment, Blank, Letter, Other, Special, Invalid}
@@ -117,6 +118,15 @@ IsStop bytes place BadByte = (place < length bytes) × (category_at bytes place 
 IsStop bytes place LoneBackslash = (place < length bytes) × (category_at bytes place ≡ Escape) × (place + 1 < length bytes → ¬ IsPrinting (slice_index bytes (place + 1)))
 IsStop bytes place SpecialByte = (place < length bytes) × (category_at bytes place ≡ Special)
 
+-- some tokens adjoin and cover the bytes before a place
+pub record IsCovered (bytes : List ℕ) (place : ℕ) : Type 0 where
+  pub toks : List Tok
+  pub adjoin : Adjoin bytes 0 toks place
+
+-- the file has tokens
+abbrev pub HasTokens : List ℕ → Type 0
+HasTokens bytes = IsCovered bytes (length bytes)
+
 -- Tokens cover what stands before the place, and none begins there. So it is the first such place
 -- outside comments.
 pub record IsFirstFault (bytes : List ℕ) (place : ℕ) (kind : LexFaultKind) : Type 0 where
@@ -124,10 +134,11 @@ pub record IsFirstFault (bytes : List ℕ) (place : ℕ) (kind : LexFaultKind) :
   pub adjoin : Adjoin bytes 0 before place
   pub stop : IsStop bytes place kind
 
--- one token after another, none of two neighbours a gap
+-- the kinds of gaps
 abbrev pub IsGapKind : TokKind → Type 0
 IsGapKind kind = (kind ≡ Par) ⊎ (kind ≡ Space) ⊎ (kind ≡ Skip)
 
+-- no two neighbours are both gaps
 abbrev pub GapsStandApart : List Tok → Type 0
 GapsStandApart [] = Unit {0}
 GapsStandApart (tok ∷ []) = Unit {0}

@@ -1,3 +1,4 @@
+//! The categories of bytes, which are fixed (TeX: The Program, section 207).
 ghost use Rattle.std.specs.Prelude.{◌≡◌};
 ghost use Rattle.job_lex.specs.Category.{category};
 

@@ -1,3 +1,4 @@
+//! The faults of tokens, each with its number among the faults of a job.
 ghost use Rattle.std.specs.Prelude.{◌≡◌};
 ghost use Rattle.job_lex.specs.Tokens.{fault_number};
 

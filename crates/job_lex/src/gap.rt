@@ -1,4 +1,7 @@
-ghost use Rattle.std.specs.Prelude.{◌≡◌, ℕ, ◌<◌, ◌≤◌, ◌+◌, ◌^◌, ◌⊎◌, length, slice_index, MatchBool};
+//! Gaps between words: blanks and comments (TeX: The Program, sections 343 to 354). One with an
+//! empty line ends a paragraph.
+ghost use Rattle.std.specs.Prelude.{◌≡◌, ℕ, ◌<◌, ◌≤◌, ◌+◌, ◌^◌, ◌⊎◌, length, slice_index};
+ghost use Rattle.std.specs.Prelude.{MatchBool};
 ghost use Rattle.job_lex.specs.Tokens.{category_at, HasNoLineFeed, IsGap, HasEmptyLine, IsOfKind};
 ghost use Rattle.job_lex.specs.declared.category.Category.TheVariants.{Blank, Comment};
 
@@ -9,7 +12,8 @@ use crate::token::{Tok, TokKind};
 pub fn gap_at(bytes: &[u8], from: usize) -> Tok
     requires small { length bytes.now < 2 ^ 32 }
     requires inside { from < length bytes.now }
-    requires begins { (category_at bytes.now from ≡ Blank) ⊎ (category_at bytes.now from ≡ Comment) }
+    requires begins { (category_at bytes.now from ≡ Blank)
+        ⊎ (category_at bytes.now from ≡ Comment) }
     ensures begin { result.from ≡ from }
     ensures is { IsOfKind bytes.now result.from result.to result.kind }
 {
@@ -39,7 +43,8 @@ fn gap_kind(bytes: &[u8], from: usize, to: usize) -> TokKind
 /// The place behind the gap that begins at a place.
 fn gap_end(bytes: &[u8], from: usize) -> usize
     requires inside { from < length bytes.now }
-    requires begins { (category_at bytes.now from ≡ Blank) ⊎ (category_at bytes.now from ≡ Comment) }
+    requires begins { (category_at bytes.now from ≡ Blank)
+        ⊎ (category_at bytes.now from ≡ Comment) }
     ensures { IsGap bytes.now from result }
 {
     let mut to = from;

@@ -1,5 +1,10 @@
-ghost use Rattle.std.specs.Prelude.{◌≡◌, ◌≢◌, ℕ, ◌+◌, ◌<◌, ◌≤◌, ◌^◌, List, length, slice_index, MatchResult};
-ghost use Rattle.job_lex.specs.Tokens.{category_at, IsToken, AreTokens, IsFirstFault, IsStop};
+//! A file cut into tokens from its first byte on: each is the one that begins where the last ended
+//! (TeX: The Program, section 343). A file is also looked through for its first fault alone, which
+//! takes no memory.
+ghost use Rattle.std.specs.Prelude.{◌≡◌, ◌≢◌, ℕ, ◌+◌, ◌<◌, ◌≤◌, ◌^◌, List, length, slice_index};
+ghost use Rattle.std.specs.Prelude.{MatchResult, MatchOption};
+ghost use Rattle.job_lex.specs.Tokens.{category_at, IsToken, AreTokens, HasTokens, IsFirstFault};
+ghost use Rattle.job_lex.specs.Tokens.{IsStop};
 ghost use Rattle.job_lex.specs.Answers.{IsAnswer, GivesTokens, GivesFault};
 ghost use Rattle.job_lex.specs.declared.token.Tok.{Tok};
 ghost use Rattle.job_lex.specs.declared.fault.LexFaultKind.{LexFaultKind};
@@ -12,15 +17,16 @@ use crate::token::{Tok, TokKind};
 use items::Items;
 use std::alloc::Global;
 
-/// The tokens of a file, which adjoin and cover its bytes, or the first place outside comments where
-/// no token begins.
+/// The tokens of a file, which adjoin and cover its bytes, or the first place outside comments
+/// where no token begins.
 pub fn tokens(alloc: Global, bytes: &[u8]) -> Result<Items<Tok>, LexFault>
     requires { length bytes.now < 2 ^ 32 }
     ensures answer { IsAnswer bytes.now result }
     // No other list is made of tokens that cover the bytes, so it is found unless memory runs out.
     ensures only { (toks : List Tok) → AreTokens bytes.now toks → GivesTokens result toks }
     // And a fault is found wherever there is one.
-    ensures fault { (place : ℕ) (kind : LexFaultKind) → IsFirstFault bytes.now place kind → GivesFault result place kind }
+    ensures fault { (place : ℕ) (kind : LexFaultKind) → IsFirstFault bytes.now place kind →
+        GivesFault result place kind }
 {
     let mut toks = Vec::new(alloc);
     let mut place = 0;
@@ -40,11 +46,28 @@ pub fn tokens(alloc: Global, bytes: &[u8]) -> Result<Items<Tok>, LexFault>
     Ok(Items::from_vec(toks))
 }
 
+/// The first place outside comments where no token begins, and why, if there is one. A file without
+/// such a place has tokens, so that every file has tokens or a fault.
+pub fn first_fault(bytes: &[u8]) -> Option<(u32, LexFaultKind)>
+    requires { length bytes.now < 2 ^ 32 }
+    ensures { MatchOption result (HasTokens bytes.now) (λ x. IsFirstFault bytes.now x.0 x.1) }
+{
+    let mut place = 0;
+    while place < bytes.len() {
+        match token_at(bytes, place) {
+            Ok(tok) => place = tok.to as usize,
+            Err(kind) => return Some((place as u32, kind)),
+        }
+    }
+    None
+}
+
 /// The token that begins at a place, or why none does.
 fn token_at(bytes: &[u8], place: usize) -> Result<Tok, LexFaultKind>
     requires small { length bytes.now < 2 ^ 32 }
     requires inside { place < length bytes.now }
-    ensures { MatchResult result (λ tok. (tok.from ≡ place) × IsToken bytes.now tok) (λ kind. IsStop bytes.now place kind) }
+    ensures { MatchResult result (λ tok. (tok.from ≡ place) × IsToken bytes.now tok)
+        (λ kind. IsStop bytes.now place kind) }
 {
     match category_of(bytes[place]) {
         Category::Blank | Category::Comment => Ok(gap_at(bytes, place)),
@@ -77,7 +100,8 @@ fn command_at(bytes: &[u8], place: usize) -> Result<Tok, LexFaultKind>
     requires small { length bytes.now < 2 ^ 32 }
     requires inside { place < length bytes.now }
     requires escape { category_at bytes.now place ≡ Escape }
-    ensures { MatchResult result (λ tok. (tok.from ≡ place) × IsToken bytes.now tok) (λ kind. IsStop bytes.now place kind) }
+    ensures { MatchResult result (λ tok. (tok.from ≡ place) × IsToken bytes.now tok)
+        (λ kind. IsStop bytes.now place kind) }
 {
     let second = place + 1;
     if second >= bytes.len() {

@@ -1,9 +1,9 @@
 //! The tokens of a job: the bytes of its file cut into words, symbols, braces, characters and gaps.
 //!
 //! A byte has a category, as a character has a category code in TeX (TeX: The Program, sections 207
-//! and 343 to 356); here the categories are fixed. Blanks and comments form gaps. A gap with an empty
-//! line in it ends a paragraph. The contract of [`tokens`] says that its answer is the one list of
-//! adjoining tokens that covers the bytes, or the first byte at which no token can begin.
+//! and 343 to 356); here the categories are fixed. Blanks and comments form gaps. A gap with an
+//! empty line in it ends a paragraph. The contract of [`tokens`] says that its answer is the one
+//! list of adjoining tokens that covers the bytes, or the first byte at which no token can begin.
 //!
 //! What the words mean is the business of the crate that reads the grammar.
 #![tactic(auto)]
@@ -19,5 +19,5 @@ mod token;
 
 pub use fault::{LexFault, LexFaultKind};
 pub use laws::{gaps_stand_apart, texts_are_the_source, tokens_are_one};
-pub use lexer::tokens;
+pub use lexer::{first_fault, tokens};
 pub use token::{Tok, TokKind};

@@ -1,3 +1,4 @@
+//! Each kind of token and each fault, in files of a few bytes.
 use crate::fault::LexFault;
 use crate::fault::LexFaultKind::{self, BadByte, LoneBackslash, SpecialByte};
 use crate::lexer::tokens;

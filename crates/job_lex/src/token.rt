@@ -1,3 +1,4 @@
+//! A token: a kind and two places in the file.
 /// The kind of a token.
 #[derive(Clone, Copy, Debug, PartialEq, Eq)]
 pub enum TokKind {

@@ -6,19 +6,22 @@ use Rattle.std.proofs.lemmas.Int.{ints}
 use Rattle.std.proofs.lemmas.List.{length-set, length-append}
 use Rattle.std.proofs.lemmas.List.Elements.{All-nil, All-cons, All-get_or, All-set, All-push}
 use Rattle.std.proofs.lemmas.Option.{slice_get_within, get_or_from_slice_get}
-use Rattle.job_text.specs.declared.token.Token.{Token}
-use Rattle.job_text.specs.declared.token.Lexeme.{Lexeme}
-use Rattle.job_text.specs.declared.token.Lexeme.TheVariants.{Char as byte}
-use Rattle.job_text.specs.Lexemes.{keyword, is_name_byte, byte_of}
-use Rattle.job_text.specs.Reading.{place, equals, skip_space}
-use Rattle.job_text.specs.Numbers.{number, natural, within, in_range}
-use Rattle.job_text.specs.Lengths.{dimension}
-use Rattle.job_text.specs.Names.{name_of}
-use Rattle.job_text.specs.Fonts.{Font, new_font, changed, change_font, with_left, with_right, with_factor, with_hyphen, with_expand, is_expanded, hang_of, factor_of, whole_limits}
-use Rattle.job_text.specs.FontWords.{wanted_font, font_code, left_code, right_code, factor_code, hyphen_character, once, few_steps, expansion}
-use Rattle.job_text.specs.FontDeclaration.{new_word, name_bytes, behind_name, file_named, file_name, positive, size_scaled, size_at, at_letters, scaled_letters, size, Declared, font}
-use Rattle.job_text.specs.Fits.{IsSize, is_file_byte, IsFileName}
-use Rattle.job_text.proofs.Keeping.{OnRead, OnRead-bind, OnRead-then, OnRead-if}
+use Rattle.job_reading.specs.declared.token.Token.{Token}
+use Rattle.job_reading.specs.declared.token.Lexeme.{Lexeme}
+use Rattle.job_reading.specs.declared.token.Lexeme.TheVariants.{Char as byte}
+use Rattle.job_reading.specs.Lexemes.{keyword, is_name_byte, byte_of}
+use Rattle.job_reading.specs.Reading.{place, equals, skip_space}
+use Rattle.job_reading.specs.Numbers.{number, natural, within, in_range}
+use Rattle.job_reading.specs.Lengths.{dimension}
+use Rattle.job_reading.specs.GrammarTokens.{name_of}
+use Rattle.job_text.specs.declared.font_words.CodeTable.{CodeTable}
+use Rattle.job_text.specs.declared.font_words.CodeTable.TheVariants.{Left, Right, Factor}
+use Rattle.job_text.specs.Fonts.{Font, new_font, change_found, change_font, with_hyphen, with_expand, is_expanded, whole_limits}
+use Rattle.job_text.specs.FontWords.{wanted_font, font_code, with_code, assign_code, hyphen_character, once, few_steps, expansion}
+use Rattle.job_text.specs.FontDeclaration.{new_word, name_bytes, behind_name, file_name_of, file_name, positive, size_scaled, size_at, at_letters, scaled_letters, size, FontsAndNames, font}
+use Rattle.font_stock.specs.Sizes.{IsSize}
+use Rattle.job_text.specs.Fits.{is_file_byte, IsFileName}
+use Rattle.job_reading.proofs.Keeping.{OnRead, OnRead-bind, OnRead-then, OnRead-if}
 
 -- a number within bounds
 record IsWithin (least most n : ℕ) : Type 0 where
@@ -51,7 +54,7 @@ name_bytes_are : (toks : List Token) → All (λ code. is_file_byte code ≡ tru
 name_bytes_are [] = All-nil (λ code. is_file_byte code ≡ true)
 name_bytes_are (tok ∷ toks) = one_name_byte tok (name_bytes toks) (is_name_byte tok.lexeme) refl (name_bytes_are toks)
 
-named_fits : (first : ℕ) (name : List ℕ) (toks : List Token) → All (λ code. is_file_byte code ≡ true) name → OnRead IsFileName (file_named first name toks)
+named_fits : (first : ℕ) (name : List ℕ) (toks : List Token) → All (λ code. is_file_byte code ≡ true) name → OnRead IsFileName (file_name_of first name toks)
 named_fits first [] toks all = tt
 named_fits first (code ∷ codes) toks all =
     OnRead-if IsFileName (nat_lt 40 (length (code ∷ codes))) _ _ (λ long. tt) (λ short. record { some = omega arith; short = ltb-false _ _ short; bytes = all })
@@ -89,7 +92,7 @@ pub record FontsFit (count : ℕ) (fonts : List Font) : Type 0 where
   pub counted : length fonts ≡ count
   pub each : All FontFits fonts
 
-changed_fits : (count : ℕ) (fonts : List Font) (n : ℕ) (change : Font → Font) (found : Option Font) → slice_get fonts n ≡ found → ((f : Font) → FontFits f → FontFits (change f)) → FontsFit count fonts → FontsFit count (changed fonts n change found)
+changed_fits : (count : ℕ) (fonts : List Font) (n : ℕ) (change : Font → Font) (found : Option Font) → slice_get fonts n ≡ found → ((f : Font) → FontFits f → FontFits (change f)) → FontsFit count fonts → FontsFit count (change_found fonts n change found)
 changed_fits count fonts n change None is keeps fits = fits
 changed_fits count fonts n change (Some f) is keeps fits =
     let inside : n < length fonts = slice_get_within fonts n f is in
@@ -105,17 +108,14 @@ change_fits count fonts n change keeps fits = changed_fits count fonts n change 
 same_fit : (a b : Font) → a.size ≡ b.size → a.name ≡ b.name → FontFits a → FontFits b
 same_fit a b sizes names fits = record { size = subst IsSize sizes fits.size; name = subst IsFileName names fits.name }
 
-pub left_fits : (count : ℕ) (bytes : List ℕ) (names : List (List ℕ)) (fonts : List Font) (toks : List Token) → FontsFit count fonts → OnRead (FontsFit count) (left_code bytes names fonts toks)
-unfolding left_code
-left_fits count bytes names fonts toks fits = OnRead-bind _ (font_code bytes names toks) _ (λ x. change_fits count fonts x.0.font (with_left x.0.code (hang_of x.0.value)) (λ f h. same_fit f _ refl refl h) fits)
+code_keeps_fit : (table : CodeTable) (code : ℕ) (value : ℤ) (f : Font) → FontFits f → FontFits (with_code table code value f)
+code_keeps_fit Left code value f h = same_fit f _ refl refl h
+code_keeps_fit Right code value f h = same_fit f _ refl refl h
+code_keeps_fit Factor code value f h = same_fit f _ refl refl h
 
-pub right_fits : (count : ℕ) (bytes : List ℕ) (names : List (List ℕ)) (fonts : List Font) (toks : List Token) → FontsFit count fonts → OnRead (FontsFit count) (right_code bytes names fonts toks)
-unfolding right_code
-right_fits count bytes names fonts toks fits = OnRead-bind _ (font_code bytes names toks) _ (λ x. change_fits count fonts x.0.font (with_right x.0.code (hang_of x.0.value)) (λ f h. same_fit f _ refl refl h) fits)
-
-pub factor_fits : (count : ℕ) (bytes : List ℕ) (names : List (List ℕ)) (fonts : List Font) (toks : List Token) → FontsFit count fonts → OnRead (FontsFit count) (factor_code bytes names fonts toks)
-unfolding factor_code
-factor_fits count bytes names fonts toks fits = OnRead-bind _ (font_code bytes names toks) _ (λ x. change_fits count fonts x.0.font (with_factor x.0.code (factor_of x.0.value)) (λ f h. same_fit f _ refl refl h) fits)
+pub code_fits : (count : ℕ) (table : CodeTable) (bytes : List ℕ) (names : List (List ℕ)) (fonts : List Font) (toks : List Token) → FontsFit count fonts → OnRead (FontsFit count) (assign_code table bytes names fonts toks)
+unfolding assign_code
+code_fits count table bytes names fonts toks fits = OnRead-bind _ (font_code bytes names toks) _ (λ x. change_fits count fonts x.0.font (with_code table x.0.code x.0.value) (code_keeps_fit table x.0.code x.0.value) fits)
 
 pub hyphen_fits : (count : ℕ) (bytes : List ℕ) (names : List (List ℕ)) (fonts : List Font) (toks : List Token) → FontsFit count fonts → OnRead (FontsFit count) (hyphen_character bytes names fonts toks)
 unfolding hyphen_character
@@ -133,7 +133,7 @@ expansion_fits count bytes names fonts from toks fits =
     change_fits count fonts font.0 (with_expand limits) (λ f h. same_fit f _ refl refl h) fits))))))
 
 -- as many words as fonts, at most 32
-pub record DeclaredFits (count : ℕ) (x : Declared) : Type 0 where
+pub record DeclaredFits (count : ℕ) (x : FontsAndNames) : Type 0 where
   pub more : count ≤ length x.names
   pub counted : length x.names ≡ length x.fonts
   pub few : length x.fonts ≤ 32

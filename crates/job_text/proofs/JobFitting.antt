@@ -7,30 +7,34 @@ use Rattle.std.proofs.lemmas.List.Elements.{All-nil, All-push, All-same}
 use Rattle.micro_num.specs.declared.paragraph.Par.{Par}
 use Rattle.micro_num.specs.declared.tables.Tables.{Tables}
 use Rattle.micro_num.specs.declared.params.Params.{Params}
-use Rattle.job_text.specs.declared.token.Token.{Token}
-use Rattle.job_text.specs.declared.token.Lexeme.{Lexeme}
-use Rattle.job_text.specs.declared.token.Lexeme.TheVariants.{Char as byte, Symbol, Letter, Word as command, Name, Space, Par as gap_par, Open, Close, Tie}
-use Rattle.job_text.specs.declared.word.Word.{Word}
-use Rattle.job_text.specs.declared.word.Word.TheVariants.{Par as par_word, Relax, Noindent, Bye, End, Char as char_word, Kern, Hskip, Penalty, Discretionary, Declaration as declaration_word, Integer, Dimension, Glue}
-use Rattle.job_text.specs.declared.word.Declaration.{Declaration}
-use Rattle.job_text.specs.declared.word.Declaration.TheVariants.{Font as font_word, Lpcode, Rpcode, Efcode, Pdffontexpand, Hyphenchar, Sfcode, Lccode, Patterns, Hyphenation}
+use Rattle.job_reading.specs.declared.token.Token.{Token}
+use Rattle.job_reading.specs.declared.token.Lexeme.{Lexeme}
+use Rattle.job_reading.specs.declared.token.Lexeme.TheVariants.{Char as byte, Symbol, Letter, Word as command, Name, Space, EmptyLine, Open, Close, Tie}
+use Rattle.job_reading.specs.declared.word.Word.{Word}
+use Rattle.job_reading.specs.declared.word.Word.TheVariants.{ParEnd, Relax, Noindent, Bye, End, Char as char_word, Kern, Hskip, Penalty, Discretionary, Parshape, Declaration as declaration_word, Integer, Dimension, Glue}
+use Rattle.job_reading.specs.declared.word.Declaration.{Declaration}
+use Rattle.job_reading.specs.declared.word.Declaration.TheVariants.{Font as font_word, Lpcode, Rpcode, Efcode, Pdffontexpand, Hyphenchar, Sfcode, Lccode, Patterns, Hyphenation}
+use Rattle.job_text.specs.declared.font_words.CodeTable.TheVariants.{Left, Right, Factor}
 use Rattle.job_text.specs.declared.font_decl.FontDecl.{FontDecl}
 use Rattle.job_text.specs.declared.job.Job.{Job}
-use Rattle.job_text.specs.Lexemes.{ends_job}
-use Rattle.job_text.specs.Reading.{Reading}
-use Rattle.job_text.specs.Names.{name_of, font_named}
+use Rattle.job_reading.specs.Lexemes.{ends_job}
+use Rattle.job_reading.specs.Reading.{Reading}
+use Rattle.job_text.specs.Names.{font_named}
+use Rattle.job_reading.specs.GrammarTokens.{name_of}
 use Rattle.job_text.specs.Fonts.{Font, font_of, fonts_of}
 use Rattle.job_text.specs.FontDeclaration.{font}
 use Rattle.job_text.specs.Hyphenation.{patterns, exceptions}
 use Rattle.job_text.specs.Paragraphs.{paragraph}
-use Rattle.job_text.specs.Job.{State, start, one_paragraph, selected, select, with_fonts, with_tables, with_params, declared, declare, word_step, is_part_symbol, lexeme_step, job_step, job_of}
-use Rattle.job_text.specs.Stripping.{grammar_tokens}
+use Rattle.job_text.specs.Job.{State, start, one_paragraph, select_named, select, with_fonts, with_tables, with_params, with_shape, declare_early, declare, word_step, is_part_symbol, lexeme_step, job_step, job_of}
+use Rattle.job_reading.specs.GrammarTokens.{grammar_tokens}
 use Rattle.job_text.specs.Answers.{Said, said_of, IsJobOf, IsAnswer}
-use Rattle.job_text.specs.declared.fault.JobFault.{JobFault}
-use Rattle.job_text.specs.Fits.{PartsFit, ParamsFit, JobFits}
-use Rattle.job_text.proofs.Keeping.{OnRead, OnRead-bind, OnRead-then, OnRead-cond, OnRead-if, OnRead-repeat, OnRead-of}
-use Rattle.job_text.proofs.Bounds.{assign_integer_fits, assign_dimension_fits, assign_glue_fits, plain_params_fit}
-use Rattle.job_text.proofs.FontsFitting.{FontFits, FontsFit, left_fits, right_fits, factor_fits, hyphen_fits, expansion_fits, DeclaredFits, font_fits}
+use Rattle.job_reading.specs.declared.fault.JobFault.{JobFault}
+use Rattle.job_text.specs.Fits.{PartsFit, ParamsFit, ShapeFits, JobFits}
+use Rattle.job_reading.proofs.Keeping.{OnRead, OnRead-bind, OnRead-then, OnRead-cond, OnRead-if, OnRead-repeat, OnRead-of}
+use Rattle.job_text.proofs.Bounds.{behind_paragraph_fits, assign_integer_fits, assign_dimension_fits, assign_glue_fits, plain_params_fit}
+use Rattle.job_text.proofs.ShapesFitting.{no_shape_fits, shape_fits}
+use Rattle.micro_num.specs.declared.shape.ShapeLine.{ShapeLine}
+use Rattle.job_text.proofs.FontsFitting.{FontFits, FontsFit, code_fits, hyphen_fits, expansion_fits, DeclaredFits, font_fits}
 use Rattle.job_text.proofs.PartsFitting.{IsCurrent, AreBounded, font_named_inside, ParFits, paragraph_fits}
 
 -- what a job that is being read keeps
@@ -44,6 +48,8 @@ record StateFits (s : State) : Type 0 where
   params : ParamsFit s.params
   all_params : All (λ par. ParamsFit par.params) s.pars
   bounded : All (λ par. AreBounded par.parts) s.pars
+  shape : ShapeFits s.shape
+  shapes : All (λ par. ShapeFits par.shape) s.pars
 
 start_fits : StateFits start
 start_fits = record {
@@ -56,6 +62,8 @@ start_fits = record {
   params = plain_params_fit;
   all_params = All-nil (λ par. ParamsFit par.params);
   bounded = All-nil (λ par. AreBounded par.parts);
+  shape = no_shape_fits;
+  shapes = All-nil (λ par. ShapeFits par.shape);
 }
 
 paragraph_keeps : (bytes : List ℕ) (s : State) (from : ℕ) (first : Option Token) (toks : List Token) → StateFits s → OnRead StateFits (one_paragraph bytes s from first toks)
@@ -66,15 +74,17 @@ paragraph_keeps bytes s from first toks fits =
       counted = fits.counted;
       few = fits.few;
       each = fits.each;
-      few_pars = omega (arith, length-append s.pars (record { params = s.params; indent = is_some first; parts = x.0.0 } ∷ []), leb-false 65535 (length s.pars) few);
-      pars = All-push (λ p. PartsFit (length s.names) false p.parts) s.pars (record { params = s.params; indent = is_some first; parts = x.0.0 }) fits.pars par.parts;
+      few_pars = omega (arith, length-append s.pars (record { params = s.params; indent = is_some first; shape = s.shape; parts = x.0.0 } ∷ []), leb-false 65535 (length s.pars) few);
+      pars = All-push (λ p. PartsFit (length s.names) false p.parts) s.pars (record { params = s.params; indent = is_some first; shape = s.shape; parts = x.0.0 }) fits.pars par.parts;
       current = par.current;
-      params = fits.params;
-      all_params = All-push (λ p. ParamsFit p.params) s.pars (record { params = s.params; indent = is_some first; parts = x.0.0 }) fits.all_params fits.params;
-      bounded = All-push (λ p. AreBounded p.parts) s.pars (record { params = s.params; indent = is_some first; parts = x.0.0 }) fits.bounded par.bounded;
+      params = behind_paragraph_fits s.params fits.params;
+      all_params = All-push (λ p. ParamsFit p.params) s.pars (record { params = s.params; indent = is_some first; shape = s.shape; parts = x.0.0 }) fits.all_params fits.params;
+      bounded = All-push (λ p. AreBounded p.parts) s.pars (record { params = s.params; indent = is_some first; shape = s.shape; parts = x.0.0 }) fits.bounded par.bounded;
+      shape = no_shape_fits;
+      shapes = All-push (λ p. ShapeFits p.shape) s.pars (record { params = s.params; indent = is_some first; shape = s.shape; parts = x.0.0 }) fits.shapes fits.shape;
     }))
 
-selected_keeps : (s : State) (from : ℕ) (toks : List Token) (font : Option ℕ) → IsCurrent (length s.names) font → StateFits s → OnRead StateFits (selected s from toks font)
+selected_keeps : (s : State) (from : ℕ) (toks : List Token) (font : Option ℕ) → IsCurrent (length s.names) font → StateFits s → OnRead StateFits (select_named s from toks font)
 selected_keeps s from toks None inside fits = tt
 selected_keeps s from toks (Some font) inside fits = assumption
 
@@ -94,6 +104,8 @@ fonts_keep s reading fits holds =
       params = fits.params;
       all_params = fits.all_params;
       bounded = fits.bounded;
+      shape = fits.shape;
+      shapes = fits.shapes;
     })
 
 fonts_fit : (s : State) → StateFits s → FontsFit (length s.names) s.fonts
@@ -105,13 +117,16 @@ tables_keep s reading fits = OnRead-bind StateFits reading _ (λ x. assumption)
 params_keep : (s : State) (reading : Reading Params) → StateFits s → OnRead ParamsFit reading → OnRead StateFits (with_params s reading)
 params_keep s reading fits holds = OnRead-then ParamsFit StateFits reading _ holds (λ x params. assumption)
 
+shape_keeps : (s : State) (reading : Reading (List ShapeLine)) → StateFits s → OnRead ShapeFits reading → OnRead StateFits (with_shape s reading)
+shape_keeps s reading fits holds = OnRead-then ShapeFits StateFits reading _ holds (λ x shape. assumption)
+
 current_more : (count more : ℕ) (current : Option ℕ) → count ≤ more → IsCurrent count current → IsCurrent more current
 current_more count more None less inside = tt
 current_more count more (Some font) less inside = omega (arith, less, inside)
 
 -- a font is declared before the first paragraph, so no paragraph speaks of fewer fonts
-declared_keeps : (bytes : List ℕ) (s : State) (from : ℕ) (word : Declaration) (toks : List Token) → s.pars ≡ [] → StateFits s → OnRead StateFits (declared bytes s from word toks)
-unfolding declared
+declared_keeps : (bytes : List ℕ) (s : State) (from : ℕ) (word : Declaration) (toks : List Token) → s.pars ≡ [] → StateFits s → OnRead StateFits (declare_early bytes s from word toks)
+unfolding declare_early
 declared_keeps bytes s from font_word toks none fits =
     OnRead-then (DeclaredFits (length s.names)) StateFits (font bytes s.names s.fonts from toks) _ (font_fits bytes s.names s.fonts from toks fits.counted fits.each) (λ x h. record {
       counted = h.counted;
@@ -123,10 +138,12 @@ declared_keeps bytes s from font_word toks none fits =
       params = fits.params;
       all_params = fits.all_params;
       bounded = fits.bounded;
+      shape = fits.shape;
+      shapes = fits.shapes;
     })
-declared_keeps bytes s from Lpcode toks none fits = fonts_keep s _ fits (left_fits (length s.names) bytes s.names s.fonts toks (fonts_fit s fits))
-declared_keeps bytes s from Rpcode toks none fits = fonts_keep s _ fits (right_fits (length s.names) bytes s.names s.fonts toks (fonts_fit s fits))
-declared_keeps bytes s from Efcode toks none fits = fonts_keep s _ fits (factor_fits (length s.names) bytes s.names s.fonts toks (fonts_fit s fits))
+declared_keeps bytes s from Lpcode toks none fits = fonts_keep s _ fits (code_fits (length s.names) Left bytes s.names s.fonts toks (fonts_fit s fits))
+declared_keeps bytes s from Rpcode toks none fits = fonts_keep s _ fits (code_fits (length s.names) Right bytes s.names s.fonts toks (fonts_fit s fits))
+declared_keeps bytes s from Efcode toks none fits = fonts_keep s _ fits (code_fits (length s.names) Factor bytes s.names s.fonts toks (fonts_fit s fits))
 declared_keeps bytes s from Pdffontexpand toks none fits = fonts_keep s _ fits (expansion_fits (length s.names) bytes s.names s.fonts from toks (fonts_fit s fits))
 declared_keeps bytes s from Hyphenchar toks none fits = fonts_keep s _ fits (hyphen_fits (length s.names) bytes s.names s.fonts toks (fonts_fit s fits))
 declared_keeps bytes s from Sfcode toks none fits = tables_keep s _ fits
@@ -144,7 +161,7 @@ declare_keeps bytes s from word toks fits = OnRead-if StateFits (length s.pars =
 
 word_keeps : (bytes : List ℕ) (s : State) (tok : Token) (word : Word) (toks : List Token) → StateFits s → OnRead StateFits (word_step bytes s tok word toks)
 unfolding word_step
-word_keeps bytes s tok par_word toks fits = fits
+word_keeps bytes s tok ParEnd toks fits = fits
 word_keeps bytes s tok Relax toks fits = fits
 word_keeps bytes s tok Bye toks fits = fits
 word_keeps bytes s tok End toks fits = fits
@@ -154,6 +171,7 @@ word_keeps bytes s tok Kern toks fits = paragraph_keeps bytes s tok.from (Some t
 word_keeps bytes s tok Hskip toks fits = paragraph_keeps bytes s tok.from (Some tok) toks fits
 word_keeps bytes s tok Penalty toks fits = paragraph_keeps bytes s tok.from (Some tok) toks fits
 word_keeps bytes s tok Discretionary toks fits = paragraph_keeps bytes s tok.from (Some tok) toks fits
+word_keeps bytes s tok Parshape toks fits = shape_keeps s _ fits (shape_fits (length bytes) toks)
 word_keeps bytes s tok (declaration_word word) toks fits = declare_keeps bytes s tok.from word toks fits
 word_keeps bytes s tok (Integer parameter) toks fits = params_keep s _ fits (assign_integer_fits (length bytes) s.params parameter toks fits.params)
 word_keeps bytes s tok (Dimension parameter) toks fits = params_keep s _ fits (assign_dimension_fits (length bytes) s.params parameter toks fits.params)
@@ -161,7 +179,7 @@ word_keeps bytes s tok (Glue parameter) toks fits = params_keep s _ fits (assign
 
 lexeme_keeps : (bytes : List ℕ) (s : State) (tok : Token) (toks : List Token) (lexeme : Lexeme) → StateFits s → OnRead StateFits (lexeme_step bytes s tok toks lexeme)
 lexeme_keeps bytes s tok toks Space fits = fits
-lexeme_keeps bytes s tok toks gap_par fits = fits
+lexeme_keeps bytes s tok toks EmptyLine fits = fits
 lexeme_keeps bytes s tok toks Close fits = tt
 lexeme_keeps bytes s tok toks (Letter code) fits = select_keeps bytes s tok toks fits
 lexeme_keeps bytes s tok toks Name fits = select_keeps bytes s tok toks fits
@@ -196,6 +214,7 @@ job_fits bytes job is =
       few_pars = omega (arith, ap length pars, kept.few_pars);
       pars = subst (λ (n : ℕ). All (λ p. PartsFit n false p.parts) job.pars) count (subst (All (λ p. PartsFit (length is.state.names) false p.parts)) pars kept.pars);
       params = subst (All (λ p. ParamsFit p.params)) pars kept.all_params;
+      shapes = subst (All (λ p. ShapeFits p.shape)) pars kept.shapes;
       bounded = subst (All (λ p. AreBounded p.parts)) pars kept.bounded;
     }
 

@@ -1,9 +1,7 @@
 pub mod Bounds
-pub mod Digits
 pub mod FontChanges
 pub mod FontsFitting
 pub mod JobFitting
 pub mod JobOnce
-pub mod Keeping
 pub mod PartsFitting
-pub mod Repeats
+pub mod ShapesFitting

@@ -7,25 +7,27 @@ use Rattle.std.specs.Str.{bytes_eq}
 use Rattle.micro_num.specs.declared.paragraph.PartAt.{PartAt}
 use Rattle.micro_num.specs.declared.part.Part.{Part}
 use Rattle.micro_num.specs.declared.part.Part.TheVariants.{Char as char_part, Space as space_part, Normal as normal_part, Tie as tie_part, Hyphen as hyphen_part, Font as font_part}
-use Rattle.job_text.specs.declared.token.Token.{Token}
-use Rattle.job_text.specs.declared.token.Lexeme.{Lexeme}
-use Rattle.job_text.specs.declared.token.Lexeme.TheVariants.{Char as byte, Symbol, Letter, Word as command_word, Name, Space, Par, Open, Close, Tie}
-use Rattle.job_text.specs.declared.word.Word.{Word}
-use Rattle.job_text.specs.declared.word.Word.TheVariants.{Par as par_word, Relax, Noindent, Bye, End, Char as char_word, Kern, Hskip, Penalty, Discretionary, Declaration, Integer, Dimension, Glue}
+use Rattle.job_reading.specs.declared.token.Token.{Token}
+use Rattle.job_reading.specs.declared.token.Lexeme.{Lexeme}
+use Rattle.job_reading.specs.declared.token.Lexeme.TheVariants.{Char as byte, Symbol, Letter, Word as command_word, Name, Space, EmptyLine, Open, Close, Tie}
+use Rattle.job_reading.specs.declared.word.Word.{Word}
+use Rattle.job_reading.specs.declared.word.Word.TheVariants.{ParEnd, Relax, Noindent, Bye, End, Char as char_word, Kern, Hskip, Penalty, Discretionary, Parshape, Declaration, Integer, Dimension, Glue}
 use Rattle.job_text.specs.declared.groups.Group.{Group}
 use Rattle.job_text.specs.declared.setting.Setting.{Setting}
-use Rattle.job_text.specs.Lexemes.{ends_paragraph}
-use Rattle.job_text.specs.Reading.{Reading, ◌>>=◌}
-use Rattle.job_text.specs.Numbers.{number, natural}
-use Rattle.job_text.specs.Lengths.{dimension, glue}
+use Rattle.job_reading.specs.Lexemes.{ends_paragraph}
+use Rattle.job_reading.specs.Reading.{Reading, ◌>>=◌}
+use Rattle.job_reading.specs.Numbers.{number, natural}
+use Rattle.job_reading.specs.Lengths.{dimension, glue}
 use Rattle.job_text.specs.Discretionaries.{is_character_symbol, group}
-use Rattle.job_text.specs.Names.{name_of, font_from, font_named}
-use Rattle.job_text.specs.Parts.{added, with_font, font_or_fault, text, symbol, open_group, closed, close_group, selected, font_word, discretionary, command, part_of, part}
-use Rattle.job_text.specs.Repeats.{repeat}
-use Rattle.job_text.specs.Paragraphs.{opened, first_part, all_closed, paragraph}
-use Rattle.job_text.specs.Fits.{needs_font, is_font, NamesFont, PartsFit, IsLength, IsGlue, IsNumber, IsBounded}
-use Rattle.job_text.proofs.Bounds.{number_bounded, dimension_bounded, glue_bounded}
-use Rattle.job_text.proofs.Keeping.{OnRead, OnRead-bind, OnRead-then, OnRead-cond, OnRead-repeat}
+use Rattle.job_text.specs.Names.{font_from, font_named}
+use Rattle.job_reading.specs.GrammarTokens.{name_of}
+use Rattle.job_text.specs.Parts.{add_part, with_font, font_or_fault, text, symbol, open_group, close_innermost, close_group, select_named, font_word, discretionary, command, part_of, part}
+use Rattle.job_reading.specs.Repeats.{repeat}
+use Rattle.job_text.specs.Paragraphs.{start_setting, first_part, no_open_group, paragraph}
+use Rattle.job_text.specs.Fits.{needs_font, is_font, NamesFont, PartsFit, IsBounded}
+use Rattle.job_reading.specs.Bounds.{IsLength, IsNumber, IsGlue}
+use Rattle.job_reading.proofs.Bounds.{number_bounded, dimension_bounded, glue_bounded}
+use Rattle.job_reading.proofs.Keeping.{OnRead, OnRead-bind, OnRead-then, OnRead-cond, OnRead-repeat}
 
 -- a current font is one of so many
 abbrev pub IsCurrent : ℕ → Option ℕ → Type 0
@@ -82,7 +84,7 @@ has_font-push [] one = or-false (is_font one.part)
 has_font-push (first ∷ parts) one = ap (λ (b : Bool). is_font first.part || b) (has_font-push parts one) ∙ or-assoc (is_font first.part) (has_font parts) (is_font one.part)
 
 -- a part that is no Font part, where a font is current or the part needs none
-plain_fits : (count : ℕ) (s : Setting) (offset : ℕ) (one : Part) → SettingFits count s → NamesFont count one → IsBounded one → (needs_font one ≡ true → has_font s.parts ≡ true) → is_font one ≡ false → SettingFits count (added s offset one)
+plain_fits : (count : ℕ) (s : Setting) (offset : ℕ) (one : Part) → SettingFits count s → NamesFont count one → IsBounded one → (needs_font one ≡ true → has_font s.parts ≡ true) → is_font one ≡ false → SettingFits count (add_part s offset one)
 plain_fits count s offset one fits names bounded needs no_font = record {
   current = fits.current;
   groups = fits.groups;
@@ -92,7 +94,7 @@ plain_fits count s offset one fits names bounded needs no_font = record {
 }
 
 -- with a Font part the current font and those of the groups may be any
-font_fits : (count : ℕ) (s : Setting) (offset font : ℕ) → PartsFit count false s.parts → AreBounded s.parts → IsCurrent count s.current → GroupsFit count s.groups → font < count → SettingFits count (added s offset (font_part font))
+font_fits : (count : ℕ) (s : Setting) (offset font : ℕ) → PartsFit count false s.parts → AreBounded s.parts → IsCurrent count s.current → GroupsFit count s.groups → font < count → SettingFits count (add_part s offset (font_part font))
 font_fits count s offset font parts bounded current groups inside = record {
   current = current;
   groups = groups;
@@ -117,7 +119,7 @@ on_font count s offset (Some font) f is fits keeps = keeps (begun_by s font is f
 
 text_fits : (count : ℕ) (s : Setting) (from : ℕ) (one : Part) (toks : List Token) → SettingFits count s → NamesFont count one → IsBounded one → is_font one ≡ false → OnRead (SettingFits count) (text s from one toks)
 unfolding text
-text_fits count s from one toks fits names bounded no_font = on_font count s from s.current (λ _. Ok (added s from one, toks)) refl fits (λ has. plain_fits count s from one fits names bounded (λ h. has) no_font)
+text_fits count s from one toks fits names bounded no_font = on_font count s from s.current (λ _. Ok (add_part s from one, toks)) refl fits (λ has. plain_fits count s from one fits names bounded (λ h. has) no_font)
 
 symbol_fits : (count : ℕ) (s : Setting) (from code : ℕ) (toks : List Token) → SettingFits count s → OnRead (SettingFits count) (symbol s from code toks)
 unfolding symbol
@@ -132,7 +134,7 @@ open_fits count s from toks fits =
     current_fits count (record s { groups = record { font = s.current; brace = from } ∷ s.groups }) from s.current refl fits.parts fits.bounded (fits.current, fits.groups) fits.current
     (λ none. ⊎_elim (λ has. inl has) (λ others. inr (none, (none, others.1))) fits.begun)
 
-closed_fits : (count : ℕ) (s : Setting) (from : ℕ) (toks : List Token) (groups : List Group) → s.groups ≡ groups → SettingFits count s → OnRead (SettingFits count) (closed s from toks groups)
+closed_fits : (count : ℕ) (s : Setting) (from : ℕ) (toks : List Token) (groups : List Group) → s.groups ≡ groups → SettingFits count s → OnRead (SettingFits count) (close_innermost s from toks groups)
 closed_fits count s from toks [] is fits = tt
 closed_fits count s from toks (one ∷ groups) is fits =
     let inner : GroupsFit count (one ∷ groups) = subst (GroupsFit count) is fits.groups in
@@ -155,7 +157,7 @@ font_from_inside font (own ∷ names) name =
 pub font_named_inside : (names : List (List ℕ)) (name : List ℕ) → IsCurrent (length names) (font_named names name)
 font_named_inside names name = let same : 0 + length names ≡ length names = omega arith in subst (λ (n : ℕ). IsCurrent n (font_named names name)) same (font_from_inside 0 names name)
 
-selected_fits : (count : ℕ) (s : Setting) (from : ℕ) (toks : List Token) (font : Option ℕ) → IsCurrent count font → SettingFits count s → OnRead (SettingFits count) (selected s from toks font)
+selected_fits : (count : ℕ) (s : Setting) (from : ℕ) (toks : List Token) (font : Option ℕ) → IsCurrent count font → SettingFits count s → OnRead (SettingFits count) (select_named s from toks font)
 selected_fits count s from toks None inside fits = tt
 selected_fits count s from toks (Some font) inside fits = font_fits count (record s { current = Some font }) from font fits.parts fits.bounded inside fits.groups inside
 
@@ -171,7 +173,7 @@ disc_fits count end s from toks fits =
 
 command_fits : (count end : ℕ) (s : Setting) (from : ℕ) (word : Word) (toks : List Token) → SettingFits count s → OnRead (SettingFits count) (command end s from word toks)
 unfolding command
-command_fits count end s from par_word toks fits = fits
+command_fits count end s from ParEnd toks fits = fits
 command_fits count end s from Bye toks fits = fits
 command_fits count end s from End toks fits = fits
 command_fits count end s from Noindent toks fits = fits
@@ -181,6 +183,7 @@ command_fits count end s from Kern toks fits = OnRead-then IsLength _ (dimension
 command_fits count end s from Hskip toks fits = OnRead-then IsGlue _ (glue end toks) _ (glue_bounded end toks) (λ x bounded. plain_fits count s from _ fits tt bounded (λ h. cc) refl)
 command_fits count end s from Penalty toks fits = OnRead-then IsNumber _ (number end toks) _ (number_bounded end toks) (λ x bounded. plain_fits count s from _ fits tt bounded (λ h. cc) refl)
 command_fits count end s from Discretionary toks fits = disc_fits count end s from toks fits
+command_fits count end s from Parshape toks fits = tt
 command_fits count end s from (Declaration word) toks fits = tt
 command_fits count end s from (Integer word) toks fits = tt
 command_fits count end s from (Dimension word) toks fits = tt
@@ -196,13 +199,13 @@ lexeme_fits bytes names s tok toks Close fits = closing_fits (length names) s to
 lexeme_fits bytes names s tok toks (Letter code) fits = word_fits bytes names s tok toks fits
 lexeme_fits bytes names s tok toks Name fits = word_fits bytes names s tok toks fits
 lexeme_fits bytes names s tok toks (command_word word) fits = command_fits (length names) (length bytes) s tok.from word toks fits
-lexeme_fits bytes names s tok toks Par fits = fits
+lexeme_fits bytes names s tok toks EmptyLine fits = fits
 
 part_fits : (bytes : List ℕ) (names : List (List ℕ)) (s : Setting) (tok : Token) (toks : List Token) → SettingFits (length names) s → OnRead (SettingFits (length names)) (part bytes names s tok toks)
 unfolding part
 part_fits bytes names s tok toks fits = lexeme_fits bytes names s tok toks tok.lexeme fits
 
-opened_fits : (count : ℕ) (current : Option ℕ) (from : ℕ) → IsCurrent count current → SettingFits count (opened current from)
+opened_fits : (count : ℕ) (current : Option ℕ) (from : ℕ) → IsCurrent count current → SettingFits count (start_setting current from)
 opened_fits count current from inside = current_fits count (record { parts = []; current = current; groups = [] }) from current refl tt (All-nil (λ one. IsBounded one.part)) tt inside (λ none. inr (none, tt))
 
 first_fits : (bytes : List ℕ) (names : List (List ℕ)) (s : Setting) (first : Option Token) (toks : List Token) → SettingFits (length names) s → OnRead (SettingFits (length names)) (first_part bytes names s first toks)
@@ -218,6 +221,6 @@ pub record ParFits (count : ℕ) (x : List PartAt × Option ℕ) : Type 0 where
 pub paragraph_fits : (bytes : List ℕ) (names : List (List ℕ)) (current : Option ℕ) (from : ℕ) (first : Option Token) (toks : List Token) → IsCurrent (length names) current → OnRead (ParFits (length names)) (paragraph bytes names current from first toks)
 unfolding paragraph
 paragraph_fits bytes names current from first toks inside =
-    OnRead-then (SettingFits (length names)) (ParFits (length names)) (first_part bytes names (opened current from) first toks) _ (first_fits bytes names (opened current from) first toks (opened_fits (length names) current from inside))
+    OnRead-then (SettingFits (length names)) (ParFits (length names)) (first_part bytes names (start_setting current from) first toks) _ (first_fits bytes names (start_setting current from) first toks (opened_fits (length names) current from inside))
     (λ begun fits. OnRead-then (SettingFits (length names)) (ParFits (length names)) (repeat ends_paragraph (part bytes names) (length begun.1) begun.0 begun.1) _ (OnRead-repeat (SettingFits (length names)) ends_paragraph (part bytes names) (part_fits bytes names) (length begun.1) begun.0 begun.1 fits)
-    (λ read holds. OnRead-bind (ParFits (length names)) (all_closed read.0.groups) _ (λ _. record { parts = holds.parts; bounded = holds.bounded; current = holds.current })))
+    (λ read holds. OnRead-bind (ParFits (length names)) (no_open_group read.0.groups) _ (λ _. record { parts = holds.parts; bounded = holds.bounded; current = holds.current })))

@@ -1,4 +1,5 @@
 -- What `read_job` answers: the job, its first fault, or want of memory.
+-- This is the crate's own.
 use Rattle.std.specs.Prelude.{◌≡◌, ℕ, ◌⊎◌, List, Result, Ok, Err}
 use Rattle.micro_num.specs.declared.paragraph.Par.{Par}
 use Rattle.micro_num.specs.declared.tables.Tables.{Tables}
@@ -6,13 +7,13 @@ use Rattle.liang_hyph.specs.declared.source.Exception.{Exception}
 use Rattle.job_lex.specs.declared.token.Tok.{Tok}
 use Rattle.job_lex.specs.declared.fault.LexFaultKind.{LexFaultKind}
 use Rattle.job_lex.specs.Tokens.{AreTokens, IsFirstFault}
-use Rattle.job_text.specs.declared.token.Token.{Token}
+use Rattle.job_reading.specs.declared.token.Token.{Token}
 use Rattle.job_text.specs.declared.job.Job.{Job}
-use Rattle.job_text.specs.declared.fault.JobFault.{JobFault}
-use Rattle.job_text.specs.declared.fault.JobFault.TheVariants.{At, NoMemory}
-use Rattle.job_text.specs.declared.fault.JobFaultKind.{JobFaultKind}
-use Rattle.job_text.specs.Faults.{job_kind}
-use Rattle.job_text.specs.Stripping.{grammar_tokens}
+use Rattle.job_reading.specs.declared.fault.JobFault.{JobFault}
+use Rattle.job_reading.specs.declared.fault.JobFault.TheVariants.{At, NoMemory}
+use Rattle.job_reading.specs.declared.fault.JobFaultKind.{JobFaultKind}
+use Rattle.job_reading.specs.Faults.{job_kind}
+use Rattle.job_reading.specs.GrammarTokens.{grammar_tokens}
 use Rattle.job_text.specs.Fonts.{Font, fonts_of}
 use Rattle.job_text.specs.Hyphenation.{PatternText, patterns_of}
 use Rattle.job_text.specs.Job.{State, job_of}
@@ -73,3 +74,14 @@ abbrev pub GivesFault : Result Job JobFault → ℕ → JobFaultKind → Type 0
 GivesFault (Ok job) place kind = ⊥
 GivesFault (Err (At offset found)) place kind = (offset ≡ place) × (found ≡ kind)
 GivesFault (Err NoMemory) place kind = Unit {0}
+
+-- the bytes spell a job
+pub record HasJob (bytes : List ℕ) : Type 0 where
+  pub said : Said
+  pub is : IsJobOf bytes said
+
+-- the bytes have a fault
+pub record HasFault (bytes : List ℕ) : Type 0 where
+  pub place : ℕ
+  pub kind : JobFaultKind
+  pub is : IsFaultAt bytes place kind

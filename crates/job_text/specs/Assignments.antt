@@ -1,37 +1,18 @@
--- The tables and the parameters, and what assigns them.
-use Rattle.std.specs.Prelude.{ℕ, ◌+◌, ℤ, Bool, nat_le, ◌&&◌, List, map, slice_set, Ok, if◌then◌else◌}
-use Rattle.std.specs.List.{range_with_len}
+-- The tables and the parameters, and what assigns them (TeX: The Program, sections 1228 to 1234).
+use Rattle.std.specs.Prelude.{ℕ, ℤ, pos, List, slice_set, Ok}
 use Rattle.micro_num.specs.declared.tables.Tables.{Tables}
 use Rattle.micro_num.specs.declared.params.Params.{Params}
 use Rattle.micro_num.specs.declared.glue.Glue.{Glue}
-use Rattle.job_text.specs.declared.token.Token.{Token}
-use Rattle.job_text.specs.declared.word.IntegerParameter.{IntegerParameter}
-use Rattle.job_text.specs.declared.word.IntegerParameter.TheVariants.{Pretolerance, Tolerance, Linepenalty, Hyphenpenalty, Exhyphenpenalty, Adjdemerits, Doublehyphendemerits, Finalhyphendemerits, Lefthyphenmin, Righthyphenmin, Pdfprotrudechars, Pdfadjustspacing}
-use Rattle.job_text.specs.declared.word.DimensionParameter.{DimensionParameter}
-use Rattle.job_text.specs.declared.word.DimensionParameter.TheVariants.{Hsize, Parindent, Lineskiplimit, Emergencystretch}
-use Rattle.job_text.specs.declared.word.GlueParameter.{GlueParameter}
-use Rattle.job_text.specs.declared.word.GlueParameter.TheVariants.{Baselineskip, Lineskip, Parfillskip, Leftskip, Rightskip, Spaceskip, Xspaceskip}
-use Rattle.job_text.specs.Reading.{Reading, ◌>>=◌, equals}
-use Rattle.job_text.specs.Numbers.{number, natural}
-use Rattle.job_text.specs.Lengths.{dimension, glue}
-
-abbrev pub is_upper : ℕ → Bool
-is_upper code = nat_le 65 code && nat_le code 90
-
-abbrev pub is_lower : ℕ → Bool
-is_lower code = nat_le 97 code && nat_le code 122
-
--- a capital has the space factor 999, all else 1000
-abbrev pub plain_factor : ℕ → ℕ
-plain_factor code = if is_upper code then 999 else 1000
-
--- the letters A to Z and a to z have a lower case
-abbrev pub plain_lower : ℕ → ℕ
-plain_lower code = if is_upper code then code + 32 else (if is_lower code then code else 0)
-
--- the tables of plain TeX
-abbrev pub plain_tables : Tables
-plain_tables = record { sfcode = map plain_factor (range_with_len 0 256); lccode = map plain_lower (range_with_len 0 256) }
+use Rattle.job_reading.specs.declared.token.Token.{Token}
+use Rattle.job_reading.specs.declared.word.IntegerParameter.{IntegerParameter}
+use Rattle.job_reading.specs.declared.word.IntegerParameter.TheVariants.{Pretolerance, Tolerance, Linepenalty, Hyphenpenalty, Exhyphenpenalty, Adjdemerits, Doublehyphendemerits, Finalhyphendemerits, Lefthyphenmin, Righthyphenmin, Pdfprotrudechars, Pdfadjustspacing, Looseness, Hangafter}
+use Rattle.job_reading.specs.declared.word.DimensionParameter.{DimensionParameter}
+use Rattle.job_reading.specs.declared.word.DimensionParameter.TheVariants.{Hsize, Parindent, Lineskiplimit, Emergencystretch, Hangindent}
+use Rattle.job_reading.specs.declared.word.GlueParameter.{GlueParameter}
+use Rattle.job_reading.specs.declared.word.GlueParameter.TheVariants.{Baselineskip, Lineskip, Parfillskip, Leftskip, Rightskip, Spaceskip, Xspaceskip}
+use Rattle.job_reading.specs.Reading.{Reading, ◌>>=◌, equals}
+use Rattle.job_reading.specs.Numbers.{number, natural}
+use Rattle.job_reading.specs.Lengths.{dimension, glue}
 
 -- a number 0 to 255, equals, and a number 0 to 32767
 unfoldable pub space_factor : ℕ → Tables → List Token → Reading Tables
@@ -60,12 +41,15 @@ with_integer Lefthyphenmin value params = record params { lefthyphenmin = value 
 with_integer Righthyphenmin value params = record params { righthyphenmin = value }
 with_integer Pdfprotrudechars value params = record params { pdfprotrudechars = value }
 with_integer Pdfadjustspacing value params = record params { pdfadjustspacing = value }
+with_integer Looseness value params = record params { looseness = value }
+with_integer Hangafter value params = record params { hangafter = value }
 
 abbrev pub with_dimension : DimensionParameter → ℤ → Params → Params
 with_dimension Hsize value params = record params { hsize = value }
 with_dimension Parindent value params = record params { parindent = value }
 with_dimension Lineskiplimit value params = record params { lineskiplimit = value }
 with_dimension Emergencystretch value params = record params { emergencystretch = value }
+with_dimension Hangindent value params = record params { hangindent = value }
 
 abbrev pub with_glue : GlueParameter → Glue → Params → Params
 with_glue Baselineskip value params = record params { baselineskip = value }
@@ -75,6 +59,11 @@ with_glue Leftskip value params = record params { leftskip = value }
 with_glue Rightskip value params = record params { rightskip = value }
 with_glue Spaceskip value params = record params { spaceskip = value }
 with_glue Xspaceskip value params = record params { xspaceskip = value }
+
+-- the parameters behind a paragraph: its looseness and its hanging indentation hold for it alone (TeX: The
+-- Program, section 1070)
+abbrev pub behind_paragraph : Params → Params
+behind_paragraph params = record params { looseness = pos 0; hangindent = pos 0; hangafter = pos 1 }
 
 -- equals and a value
 unfoldable pub assign_integer : ℕ → Params → IntegerParameter → List Token → Reading Params

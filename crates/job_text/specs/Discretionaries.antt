@@ -1,16 +1,14 @@
 -- The groups of a discretionary, which hold codes (TeX: The Program, section 1117).
-use Rattle.std.specs.Prelude.{ℕ, Bool, ◌==◌, ◌||◌, List, [], ◌∷◌, ◌++◌, length, Ok, if◌then◌else◌}
-use Rattle.job_text.specs.declared.token.Token.{Token}
-use Rattle.job_text.specs.declared.token.Lexeme.{Lexeme}
-use Rattle.job_text.specs.declared.token.Lexeme.TheVariants.{Char, Symbol, Word as command}
-use Rattle.job_text.specs.declared.word.Word.{Word}
-use Rattle.job_text.specs.declared.word.Word.TheVariants.{Char as char_word}
-use Rattle.job_text.specs.declared.fault.JobFaultKind.TheVariants.{BadDiscretionary}
-use Rattle.job_text.specs.Lexemes.{is_close}
-use Rattle.job_text.specs.Braces.{open_brace, closed}
-use Rattle.job_text.specs.Repeats.{repeat}
-use Rattle.job_text.specs.Reading.{Reading, ◌>>=◌, fault}
-use Rattle.job_text.specs.Numbers.{natural}
+use Rattle.std.specs.Prelude.{ℕ, Bool, ◌==◌, ◌||◌, List, [], ◌∷◌, ◌++◌, Ok, if◌then◌else◌}
+use Rattle.job_reading.specs.declared.token.Token.{Token}
+use Rattle.job_reading.specs.declared.token.Lexeme.{Lexeme}
+use Rattle.job_reading.specs.declared.token.Lexeme.TheVariants.{Char, Symbol, Word as command}
+use Rattle.job_reading.specs.declared.word.Word.{Word}
+use Rattle.job_reading.specs.declared.word.Word.TheVariants.{Char as char_word}
+use Rattle.job_reading.specs.declared.fault.JobFaultKind.TheVariants.{BadDiscretionary}
+use Rattle.job_text.specs.Braces.{in_braces}
+use Rattle.job_reading.specs.Reading.{Reading, ◌>>=◌, fault}
+use Rattle.job_reading.specs.Numbers.{natural}
 
 -- `\%`, `\$`, `\&`, `\#`, `\_`, `\{` and `\}` stand for their second byte
 abbrev pub is_character_symbol : ℕ → Bool
@@ -37,7 +35,4 @@ code_step end codes tok toks = code_at end tok toks >>= λ x. Ok (codes ++ x.0 �
 
 -- Spaces and a group of codes
 unfoldable pub group : ℕ → List Token → Reading (List ℕ)
-group end toks =
-    open_brace end toks >>= λ brace.
-    repeat is_close (code_step end) (length brace.1) [] brace.1 >>= λ read.
-    closed brace.0 read.0 read.1
+group end toks = in_braces end (code_step end) [] toks

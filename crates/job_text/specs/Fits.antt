@@ -1,20 +1,16 @@
 -- What every job that was read is kept to, so that the steps behind may rely on it.
-use Rattle.std.specs.Prelude.{◌≡◌, ℕ, ◌<◌, ◌≤◌, ℤ, pos, negsuc, ◌≤ℤ◌, Bool, true, false, ◌||◌, ◌==◌, List, [], ◌∷◌, length, All}
+-- This is the crate's own.
+use Rattle.std.specs.Prelude.{◌≡◌, ℕ, ◌<◌, ◌≤◌, Bool, true, false, ◌||◌, ◌==◌, List, [], ◌∷◌, length, All}
 use Rattle.std.specs.Char.{is_ascii_alphanumeric}
-use Rattle.font_stock.specs.declared.size.Size.{Size}
-use Rattle.font_stock.specs.declared.size.Size.TheVariants.{Design, At, Scaled}
-use Rattle.micro_num.specs.declared.glue.Glue.{Glue}
+use Rattle.font_stock.specs.Sizes.{IsSize}
 use Rattle.micro_num.specs.declared.params.Params.{Params}
 use Rattle.micro_num.specs.declared.paragraph.PartAt.{PartAt}
 use Rattle.micro_num.specs.declared.part.Part.{Part}
 use Rattle.micro_num.specs.declared.part.Part.TheVariants.{Char, Space, Normal, Tie, Kern, Skip, Penalty, Hyphen, Disc, Font as font_part}
 use Rattle.job_text.specs.declared.job.Job.{Job}
-
--- a size of 1 sp or more, or 1 to 32768 thousandths of the design size
-abbrev pub IsSize : Size → Type 0
-IsSize Design = Unit {0}
-IsSize (At size) = pos 1 ≤ℤ size
-IsSize (Scaled by) = (1 ≤ by) × (by ≤ 32768)
+use Rattle.micro_num.specs.declared.shape.ShapeLine.{ShapeLine}
+use Rattle.micro_num.specs.Shape.{IsShapeLine}
+use Rattle.job_reading.specs.Bounds.{IsNumber, IsLength, IsGlue}
 
 -- a letter, a digit or `-`
 abbrev pub is_file_byte : ℕ → Bool
@@ -25,22 +21,6 @@ pub record IsFileName (name : List ℕ) : Type 0 where
   pub some : 1 ≤ length name
   pub short : length name ≤ 40
   pub bytes : All (λ code. is_file_byte code ≡ true) name
-
--- a size of less than 2^30 sp, either way
-pub record IsLength (size : ℤ) : Type 0 where
-  pub low : negsuc 1073741822 ≤ℤ size
-  pub high : size ≤ℤ pos 1073741823
-
--- a number of less than 2^31, either way
-pub record IsNumber (value : ℤ) : Type 0 where
-  pub low : negsuc 2147483646 ≤ℤ value
-  pub high : value ≤ℤ pos 2147483647
-
--- what a glue stretches by is less than 2^30 sp, or 2^30 times 2^-16 of its infinite unit
-pub record IsGlue (glue : Glue) : Type 0 where
-  pub width : IsLength glue.width
-  pub stretch : IsLength glue.stretch
-  pub shrink : IsLength glue.shrink
 
 pub record ParamsFit (params : Params) : Type 0 where
   pub pretolerance : IsNumber params.pretolerance
@@ -55,10 +35,13 @@ pub record ParamsFit (params : Params) : Type 0 where
   pub righthyphenmin : IsNumber params.righthyphenmin
   pub pdfprotrudechars : IsNumber params.pdfprotrudechars
   pub pdfadjustspacing : IsNumber params.pdfadjustspacing
+  pub looseness : IsNumber params.looseness
+  pub hangafter : IsNumber params.hangafter
   pub hsize : IsLength params.hsize
   pub parindent : IsLength params.parindent
   pub lineskiplimit : IsLength params.lineskiplimit
   pub emergencystretch : IsLength params.emergencystretch
+  pub hangindent : IsLength params.hangindent
   pub baselineskip : IsGlue params.baselineskip
   pub lineskip : IsGlue params.lineskip
   pub parfillskip : IsGlue params.parfillskip
@@ -66,6 +49,11 @@ pub record ParamsFit (params : Params) : Type 0 where
   pub rightskip : IsGlue params.rightskip
   pub spaceskip : IsGlue params.spaceskip
   pub xspaceskip : IsGlue params.xspaceskip
+
+-- a shape has at most 1024 lines, with an indent and a width of less than 2^30 sp either way
+pub record ShapeFits (shape : List ShapeLine) : Type 0 where
+  pub few : length shape ≤ 1024
+  pub lines : All IsShapeLine shape
 
 -- the kerns, glues and penalties of a paragraph are as bounded
 abbrev pub IsBounded : Part → Type 0
@@ -81,7 +69,7 @@ needs_font Space = true
 needs_font Normal = true
 needs_font Tie = true
 needs_font Hyphen = true
-needs_font (Disc pre post whole) = true
+needs_font (Disc lists) = true
 needs_font _ = false
 
 abbrev pub is_font : Part → Bool
@@ -100,7 +88,7 @@ PartsFit count begun [] = Unit {0}
 PartsFit count begun (one ∷ parts) = NamesFont count one.part × (needs_font one.part ≡ true → begun ≡ true) × PartsFit count (begun || is_font one.part) parts
 
 -- at most 32 fonts, each of a size and with a file's name, and at most 65,535 paragraphs of these fonts,
--- whose lengths, numbers and glues are bounded
+-- whose lengths, numbers, glues and shapes are bounded
 pub record JobFits (job : Job) : Type 0 where
   pub few_fonts : length job.fonts ≤ 32
   pub sizes : All (λ font. IsSize font.size) job.fonts
@@ -108,4 +96,5 @@ pub record JobFits (job : Job) : Type 0 where
   pub few_pars : length job.pars ≤ 65535
   pub pars : All (λ par. PartsFit (length job.fonts) false par.parts) job.pars
   pub params : All (λ par. ParamsFit par.params) job.pars
+  pub shapes : All (λ par. ShapeFits par.shape) job.pars
   pub bounded : All (λ par. All (λ one. IsBounded one.part) par.parts) job.pars

@@ -2,25 +2,26 @@
 use Rattle.std.specs.Prelude.{ℕ, ℤ, pos, int_lt, nat_lt, nat_le, List, [], ◌∷◌, ◌++◌, length, Option, Some, None, Ok, if◌then◌else◌}
 use Rattle.font_stock.specs.declared.size.Size.{Size}
 use Rattle.font_stock.specs.declared.size.Size.TheVariants.{Design, At, Scaled}
-use Rattle.job_text.specs.declared.token.Token.{Token}
-use Rattle.job_text.specs.declared.token.Lexeme.{Lexeme}
-use Rattle.job_text.specs.declared.token.Lexeme.TheVariants.{Letter, Word as command, Name}
-use Rattle.job_text.specs.declared.fault.JobFaultKind.TheVariants.{NumberPast, TooManyFonts, NameTaken, BadName}
-use Rattle.job_text.specs.Lexemes.{keyword, is_name_byte, byte_of}
-use Rattle.job_text.specs.Reading.{Reading, ◌>>=◌, place, fault, equals, skip_space}
-use Rattle.job_text.specs.Numbers.{natural}
-use Rattle.job_text.specs.Lengths.{dimension}
-use Rattle.job_text.specs.Names.{name_of, font_named}
+use Rattle.job_reading.specs.declared.token.Token.{Token}
+use Rattle.job_reading.specs.declared.token.Lexeme.{Lexeme}
+use Rattle.job_reading.specs.declared.token.Lexeme.TheVariants.{Letter, Word as command, Name}
+use Rattle.job_reading.specs.declared.fault.JobFaultKind.TheVariants.{NumberPast, TooManyFonts, NameTaken, BadName}
+use Rattle.job_reading.specs.Lexemes.{keyword, is_name_byte, byte_of}
+use Rattle.job_reading.specs.Reading.{Reading, ◌>>=◌, place, fault, equals, skip_space}
+use Rattle.job_reading.specs.Numbers.{natural}
+use Rattle.job_reading.specs.Lengths.{dimension}
+use Rattle.job_text.specs.Names.{font_named}
+use Rattle.job_reading.specs.GrammarTokens.{name_of}
 use Rattle.job_text.specs.Fonts.{Font, new_font}
 
-abbrev pub unused : Token → List Token → Option ℕ → Reading Token
-unused tok toks None = Ok (tok, toks)
-unused tok toks (Some font) = fault NameTaken tok.from
+abbrev pub new_name : Token → List Token → Option ℕ → Reading Token
+new_name tok toks None = Ok (tok, toks)
+new_name tok toks (Some font) = fault NameTaken tok.from
 
 abbrev pub word_of_font : List ℕ → List (List ℕ) → Token → List Token → Lexeme → Reading Token
 word_of_font bytes names tok toks (command word) = fault NameTaken tok.from
-word_of_font bytes names tok toks (Letter code) = unused tok toks (font_named names (name_of bytes tok))
-word_of_font bytes names tok toks Name = unused tok toks (font_named names (name_of bytes tok))
+word_of_font bytes names tok toks (Letter code) = new_name tok toks (font_named names (name_of bytes tok))
+word_of_font bytes names tok toks Name = new_name tok toks (font_named names (name_of bytes tok))
 word_of_font bytes names tok toks _ = fault BadName tok.from
 
 -- a control word without a meaning so far
@@ -37,13 +38,13 @@ abbrev pub behind_name : List Token → List Token
 behind_name [] = []
 behind_name (tok ∷ toks) = if is_name_byte tok.lexeme then behind_name toks else tok ∷ toks
 
-abbrev pub file_named : ℕ → List ℕ → List Token → Reading (List ℕ)
-file_named first [] toks = fault BadName first
-file_named first (byte ∷ bytes) toks = if nat_lt 40 (length (byte ∷ bytes)) then fault BadName first else Ok (byte ∷ bytes, toks)
+abbrev pub file_name_of : ℕ → List ℕ → List Token → Reading (List ℕ)
+file_name_of first [] toks = fault BadName first
+file_name_of first (byte ∷ bytes) toks = if nat_lt 40 (length (byte ∷ bytes)) then fault BadName first else Ok (byte ∷ bytes, toks)
 
 -- a file's name of 1 to 40 bytes
 unfoldable pub file_name : ℕ → List Token → Reading (List ℕ)
-file_name end toks = file_named (place end toks) (name_bytes toks) (behind_name toks)
+file_name end toks = file_name_of (place end toks) (name_bytes toks) (behind_name toks)
 
 abbrev pub positive : ℕ → ℤ → List Token → Reading Size
 positive first size toks = if int_lt size (pos 1) then fault NumberPast first else Ok (At size, toks)
@@ -67,12 +68,12 @@ unfoldable pub size : ℕ → List Token → Reading Size
 size end toks = size_at end toks (keyword at_letters toks) (keyword scaled_letters toks)
 
 -- the fonts with one more, and their names
-pub record Declared : Type 0 where
+pub record FontsAndNames : Type 0 where
   pub fonts : List Font
   pub names : List (List ℕ)
 
 -- A word, equals, a file's name, an optional Space and a size declare a font; there are at most 32.
-unfoldable pub font : List ℕ → List (List ℕ) → List Font → ℕ → List Token → Reading Declared
+unfoldable pub font : List ℕ → List (List ℕ) → List Font → ℕ → List Token → Reading FontsAndNames
 font bytes names fonts from toks =
     if nat_le 32 (length names) then fault TooManyFonts from
     else (

@@ -1,12 +1,15 @@
 -- The declarations that say something of a font, which a font word names (pdfTeX manual).
 use Rattle.std.specs.Prelude.{ℕ, ℤ, Bool, true, false, nat_lt, List, [], ◌∷◌, length, slice_get, Option, Some, None, Result, Ok, unwrap_or, if◌then◌else◌}
-use Rattle.job_text.specs.declared.token.Token.{Token}
-use Rattle.job_text.specs.declared.fault.Fault.{Fault}
-use Rattle.job_text.specs.declared.fault.JobFaultKind.TheVariants.{FontNotDeclared, TooManyCells, NameTaken}
-use Rattle.job_text.specs.Lexemes.{keyword, is_name}
-use Rattle.job_text.specs.Reading.{Reading, ◌>>=◌, fault, equals}
-use Rattle.job_text.specs.Numbers.{number, natural}
-use Rattle.job_text.specs.Names.{name_of, font_named}
+use Rattle.job_reading.specs.declared.token.Token.{Token}
+use Rattle.job_reading.specs.declared.fault.Fault.{Fault}
+use Rattle.job_reading.specs.declared.fault.JobFaultKind.TheVariants.{FontNotDeclared, TooManyCells, NameTaken}
+use Rattle.job_reading.specs.Lexemes.{keyword, is_name}
+use Rattle.job_reading.specs.Reading.{Reading, ◌>>=◌, fault, equals}
+use Rattle.job_reading.specs.Numbers.{number, natural}
+use Rattle.job_text.specs.declared.font_words.CodeTable.{CodeTable}
+use Rattle.job_text.specs.declared.font_words.CodeTable.TheVariants.{Left, Right, Factor}
+use Rattle.job_text.specs.Names.{font_named}
+use Rattle.job_reading.specs.GrammarTokens.{name_of}
 use Rattle.job_text.specs.Fonts.{Font, Limits, change_font, with_left, with_right, with_factor, with_hyphen, with_expand, is_expanded, hang_of, factor_of, whole_limits, step_count}
 
 abbrev pub found_font : ℕ → List Token → Option ℕ → Reading ℕ
@@ -34,14 +37,14 @@ font_code bytes names toks =
     number (length bytes) (equals code.1) >>= λ value.
     Ok (record { font = font.0; code = code.0; value = value.0 }, value.1)
 
-unfoldable pub left_code : List ℕ → List (List ℕ) → List Font → List Token → Reading (List Font)
-left_code bytes names fonts toks = font_code bytes names toks >>= λ x. Ok (change_font fonts x.0.font (with_left x.0.code (hang_of x.0.value)), x.1)
+-- a value in a table of a font, brought into its range
+abbrev pub with_code : CodeTable → ℕ → ℤ → Font → Font
+with_code Left code value = with_left code (hang_of value)
+with_code Right code value = with_right code (hang_of value)
+with_code Factor code value = with_factor code (factor_of value)
 
-unfoldable pub right_code : List ℕ → List (List ℕ) → List Font → List Token → Reading (List Font)
-right_code bytes names fonts toks = font_code bytes names toks >>= λ x. Ok (change_font fonts x.0.font (with_right x.0.code (hang_of x.0.value)), x.1)
-
-unfoldable pub factor_code : List ℕ → List (List ℕ) → List Font → List Token → Reading (List Font)
-factor_code bytes names fonts toks = font_code bytes names toks >>= λ x. Ok (change_font fonts x.0.font (with_factor x.0.code (factor_of x.0.value)), x.1)
+unfoldable pub assign_code : CodeTable → List ℕ → List (List ℕ) → List Font → List Token → Reading (List Font)
+assign_code table bytes names fonts toks = font_code bytes names toks >>= λ x. Ok (change_font fonts x.0.font (with_code table x.0.code x.0.value), x.1)
 
 -- a font word, equals, and a number
 unfoldable pub hyphen_character : List ℕ → List (List ℕ) → List Font → List Token → Reading (List Font)

@@ -1,4 +1,4 @@
--- The fonts of a job, and what is said of them.
+-- The fonts of a job, and what is said of them (pdfTeX manual).
 use Rattle.std.specs.Prelude.{ℕ, ◌+◌, ◌*◌, ◌/◌, min, ℤ, pos, negsuc, neg_ℤ, int_lt, Bool, false, List, map, slice_get, slice_set, Option, Some, None, is_some, if◌then◌else◌, replicate}
 use Rattle.std.specs.Option.{option_map}
 use Rattle.font_stock.specs.declared.codes.FontCodes.{FontCodes}
@@ -47,13 +47,13 @@ new_font name size = record {
   expand = None;
 }
 
-abbrev pub changed : List Font → ℕ → (Font → Font) → Option Font → List Font
-changed fonts number change None = fonts
-changed fonts number change (Some font) = slice_set fonts number (change font)
+abbrev pub change_found : List Font → ℕ → (Font → Font) → Option Font → List Font
+change_found fonts number change None = fonts
+change_found fonts number change (Some font) = slice_set fonts number (change font)
 
 -- the fonts with one changed
 abbrev pub change_font : List Font → ℕ → (Font → Font) → List Font
-change_font fonts number change = changed fonts number change (slice_get fonts number)
+change_font fonts number change = change_found fonts number change (slice_get fonts number)
 
 abbrev pub with_left : ℕ → ℤ → Font → Font
 with_left code hang font = record font { codes = record { left = slice_set font.codes.left code hang; right = font.codes.right; factors = font.codes.factors; hyphen = font.codes.hyphen } }

@@ -1,11 +1,7 @@
 -- Font words: a control word stands for the font that was declared by it.
-use Rattle.std.specs.Prelude.{ℕ, ◌+◌, List, [], ◌∷◌, slice_range, Option, Some, None, if◌then◌else◌}
+-- This is the crate's own.
+use Rattle.std.specs.Prelude.{ℕ, ◌+◌, List, [], ◌∷◌, Option, Some, None, if◌then◌else◌}
 use Rattle.std.specs.Str.{bytes_eq}
-use Rattle.job_text.specs.declared.token.Token.{Token}
-
--- the name of a control word, without its backslash
-abbrev pub name_of : List ℕ → Token → List ℕ
-name_of bytes tok = slice_range bytes (tok.from + 1) tok.to
 
 -- the number of the font that was declared by a name, counted from one on
 abbrev pub font_from : ℕ → List (List ℕ) → List ℕ → Option ℕ

@@ -1,30 +1,27 @@
+//! The braces of a group (TeX: The Program, section 403).
+ghost use Rattle.job_reading.specs.Reading.{Reads, Changes};
 ghost use Rattle.std.specs.Prelude.{◌≡◌, ◌≤◌, length, IfOk};
-ghost use Rattle.job_text.specs.Reading.{Gives};
-ghost use Rattle.job_text.specs.Braces.{open_brace, closed};
+ghost use Rattle.job_text.specs.Braces.{open_brace, close_brace};
 
-use crate::fault::{Fault, JobFaultKind};
-use crate::reading::{fault_at, next, skip_space};
-use crate::token::Token;
+use job_reading::{Fault, JobFaultKind, Rest, Source};
 
 /// The place of the brace that opens a group, behind a Space, and the tokens behind it.
 #[tactic(auto, unfolding(crate::specs::Braces::open_brace))]
-pub(crate) fn open_brace(end: u32, rest: &[Token]) -> Result<(u32, &[Token]), Fault>
-    ensures value { Gives (λ x. (x.0, x.1.now)) result (open_brace end rest.now) }
-    ensures within { IfOk result (λ x. length x.1.now ≤ length rest.now) }
+pub(crate) fn open_brace<'a>(source: &Source, rest: Rest<'a>) -> Result<(u32, Rest<'a>), Fault>
+    ensures { Reads (λ x. x) result (open_brace (length source.now)) rest.entry }
 {
-    let rest = skip_space(rest);
-    match next(rest) {
+    let rest = rest.skip_space();
+    match rest.next() {
         Some((token, tail)) if token.lexeme.is_open() => Ok((token.from, tail)),
-        _ => Err(fault_at(JobFaultKind::GroupExpected, end, rest)),
+        _ => Err(source.fault(JobFaultKind::GroupExpected, rest)),
     }
 }
 
 /// The tokens behind the brace that closes a group, where it stands.
-pub(crate) fn closed(brace: u32, rest: &[Token]) -> Result<&[Token], Fault>
-    ensures value { Gives (λ x. (brace, x.now)) result (closed brace brace rest.now) }
-    ensures within { IfOk result (λ x. length x.now ≤ length rest.now) }
+pub(crate) fn close_brace<'a>(brace: u32, rest: Rest<'a>) -> Result<Rest<'a>, Fault>
+    ensures { Changes brace result (close_brace brace) rest.entry }
 {
-    match next(rest) {
+    match rest.next() {
         Some((_, tail)) => Ok(tail),
         None => Err(Fault {
             offset: brace,

@@ -1,3 +1,4 @@
+//! A font as a job declares it.
 use font_stock::{Expand, FontCodes, Size};
 use items::Items;
 

@@ -1,6 +1,9 @@
+//! The groups that are open in a paragraph, as the save stack of TeX keeps them (TeX: The Program,
+//! part 19), as far as the current font goes.
+ghost use Rattle.job_reading.specs.Reading.{Gives};
 ghost use Rattle.std.specs.Prelude.{◌≡◌, [], ◌∷◌, OnOk, MatchOption, option_copied, slice_get};
 
-use crate::fault::{Fault, JobFaultKind};
+use job_reading::{Fault, JobFaultKind};
 use micro_num::NoMemory;
 use std::alloc::Global;
 use std::marker::Model;
@@ -28,8 +31,7 @@ impl Model for Groups {
 }
 
 impl Groups {
-    ghost use Rattle.job_text.specs.Reading.{Gives};
-    ghost use Rattle.job_text.specs.Paragraphs.{all_closed};
+    ghost use Rattle.job_text.specs.Paragraphs.{no_open_group};
 
     pub(crate) fn new(alloc: Global) -> Groups
         ensures { result ≡ [] }
@@ -55,8 +57,8 @@ impl Groups {
     }
 
     /// That no group is open. The fault is at the brace of the innermost one.
-    pub(crate) fn all_closed(&self) -> Result<(), Fault>
-        ensures { Gives (λ x. x) result (all_closed self.now) }
+    pub(crate) fn no_open_group(&self) -> Result<(), Fault>
+        ensures { Gives (λ x. x) result (no_open_group self.now) }
     {
         match self.stack.last() {
             Some(group) => Err(Fault {

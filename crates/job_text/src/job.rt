@@ -1,3 +1,4 @@
+//! What a job says, as the steps behind take it.
 use crate::font_decl::FontDecl;
 use items::Items;
 use liang_hyph::{Exception, Pattern};

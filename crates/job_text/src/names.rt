@@ -1,9 +1,9 @@
-ghost use Rattle.std.specs.Prelude.{◌≡◌, ◌+◌, ◌-◌, ◌<◌, ◌≤◌, ◌++◌, ◌∷◌, [], length, slice_range, position, OnOk, IfSome};
+//! The font words of a job, which are looked up by their names.
+ghost use Rattle.std.specs.Prelude.{◌≡◌, ◌+◌, ◌-◌, ◌<◌, ◌≤◌, ◌++◌, ◌∷◌, [], length, slice_range};
+ghost use Rattle.std.specs.Prelude.{position, OnOk, IfSome};
 ghost use Rattle.std.specs.Str.{bytes_eq};
-ghost use Rattle.job_text.specs.Names.{name_of, font_named};
+ghost use Rattle.job_text.specs.Names.{font_named};
 
-use crate::bytes::slice;
-use crate::token::Token;
 use items::Items;
 use micro_num::NoMemory;
 use std::alloc::Global;
@@ -66,11 +66,4 @@ impl Names {
         self.list.push(name)?;
         Ok(())
     }
-}
-
-/// The name of a control word, without its backslash.
-pub(crate) fn name_of<'a>(bytes: &'a [u8], token: Token) -> &'a [u8]
-    ensures { result.now ≡ name_of bytes.now token }
-{
-    slice(bytes, token.from as usize + 1, token.to as usize)
 }

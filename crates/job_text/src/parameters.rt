@@ -1,14 +1,15 @@
+//! The parameters of a paragraph, and their assignment outside paragraphs (TeX: The Program,
+//! sections 1228 and 1070).
+ghost use Rattle.job_reading.specs.Reading.{Changes};
 ghost use Rattle.std.specs.Prelude.{◌≡◌, ◌≤◌, length, IfOk};
-ghost use Rattle.job_text.specs.Reading.{Gives};
-ghost use Rattle.job_text.specs.Assignments.{with_integer, with_dimension, with_glue, assign_integer, assign_dimension, assign_glue};
+ghost use Rattle.job_text.specs.Assignments.{behind_paragraph};
+ghost use Rattle.job_text.specs.Assignments.{with_integer, with_dimension, with_glue};
+ghost use Rattle.job_text.specs.Assignments.{assign_integer, assign_dimension, assign_glue};
 
-use crate::dimension::dimension;
-use crate::fault::Fault;
-use crate::glue::glue;
-use crate::number::number;
-use crate::reading::equals;
-use crate::token::Token;
-use crate::word::{DimensionParameter, GlueParameter, IntegerParameter};
+use job_reading::{
+    DimensionParameter, Fault, GlueParameter, IntegerParameter, Rest, Source, dimension, glue,
+    number,
+};
 use micro_num::{Glue, Params, Sp};
 
 /// Assigns a whole number to a parameter.
@@ -16,13 +17,13 @@ use micro_num::{Glue, Params, Sp};
 pub(crate) fn assign_integer<'a>(
     params: &mut Params,
     parameter: IntegerParameter,
-    end: u32,
-    rest: &'a [Token],
-) -> Result<&'a [Token], Fault>
-    ensures value { Gives (λ x. (params.new, x.now)) result (assign_integer end params.old parameter rest.now) }
-    ensures within { IfOk result (λ x. length x.now ≤ length rest.now) }
+    source: &Source,
+    rest: Rest<'a>,
+) -> Result<Rest<'a>, Fault>
+    ensures { Changes params.new result (assign_integer (length source.now) params.old parameter)
+        rest.entry }
 {
-    let (value, rest) = number(end, equals(rest))?;
+    let (value, rest) = number(source, rest.skip_equals())?;
     set_integer(params, parameter, value);
     Ok(rest)
 }
@@ -43,6 +44,8 @@ fn set_integer(params: &mut Params, parameter: IntegerParameter, value: i32)
         IntegerParameter::Righthyphenmin => params.righthyphenmin = value,
         IntegerParameter::Pdfprotrudechars => params.pdfprotrudechars = value,
         IntegerParameter::Pdfadjustspacing => params.pdfadjustspacing = value,
+        IntegerParameter::Looseness => params.looseness = value,
+        IntegerParameter::Hangafter => params.hangafter = value,
     }
 }
 
@@ -51,13 +54,13 @@ fn set_integer(params: &mut Params, parameter: IntegerParameter, value: i32)
 pub(crate) fn assign_dimension<'a>(
     params: &mut Params,
     parameter: DimensionParameter,
-    end: u32,
-    rest: &'a [Token],
-) -> Result<&'a [Token], Fault>
-    ensures value { Gives (λ x. (params.new, x.now)) result (assign_dimension end params.old parameter rest.now) }
-    ensures within { IfOk result (λ x. length x.now ≤ length rest.now) }
+    source: &Source,
+    rest: Rest<'a>,
+) -> Result<Rest<'a>, Fault>
+    ensures { Changes params.new result
+        (assign_dimension (length source.now) params.old parameter) rest.entry }
 {
-    let (value, rest) = dimension(end, equals(rest))?;
+    let (value, rest) = dimension(source, rest.skip_equals())?;
     set_dimension(params, parameter, value);
     Ok(rest)
 }
@@ -70,6 +73,7 @@ fn set_dimension(params: &mut Params, parameter: DimensionParameter, value: Sp)
         DimensionParameter::Parindent => params.parindent = value,
         DimensionParameter::Lineskiplimit => params.lineskiplimit = value,
         DimensionParameter::Emergencystretch => params.emergencystretch = value,
+        DimensionParameter::Hangindent => params.hangindent = value,
     }
 }
 
@@ -78,13 +82,13 @@ fn set_dimension(params: &mut Params, parameter: DimensionParameter, value: Sp)
 pub(crate) fn assign_glue<'a>(
     params: &mut Params,
     parameter: GlueParameter,
-    end: u32,
-    rest: &'a [Token],
-) -> Result<&'a [Token], Fault>
-    ensures value { Gives (λ x. (params.new, x.now)) result (assign_glue end params.old parameter rest.now) }
-    ensures within { IfOk result (λ x. length x.now ≤ length rest.now) }
+    source: &Source,
+    rest: Rest<'a>,
+) -> Result<Rest<'a>, Fault>
+    ensures { Changes params.new result (assign_glue (length source.now) params.old parameter)
+        rest.entry }
 {
-    let (value, rest) = glue(end, equals(rest))?;
+    let (value, rest) = glue(source, rest.skip_equals())?;
     set_glue(params, parameter, value);
     Ok(rest)
 }
@@ -101,4 +105,14 @@ fn set_glue(params: &mut Params, parameter: GlueParameter, value: Glue)
         GlueParameter::Spaceskip => params.spaceskip = value,
         GlueParameter::Xspaceskip => params.xspaceskip = value,
     }
+}
+
+/// What holds behind a paragraph: the parameters that hold for one paragraph alone are at their
+/// defaults.
+pub(crate) fn behind_paragraph(params: &mut Params)
+    ensures { params.new ≡ behind_paragraph params.old }
+{
+    params.looseness = 0;
+    params.hangindent = 0;
+    params.hangafter = 1;
 }

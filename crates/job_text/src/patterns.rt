@@ -1,15 +1,16 @@
+//! Hyphenation patterns and exceptions in their groups (TeX: The Program, parts 42 and 43).
+ghost use Rattle.job_reading.specs.Rest.{left};
+ghost use Rattle.job_reading.specs.Reading.{ChangesOrMemory};
 ghost use Rattle.std.specs.Prelude.{◌≡◌, ◌≤◌, ◌∷◌, length, IfOk};
-ghost use Rattle.job_text.specs.Lexemes.{is_close};
-ghost use Rattle.job_text.specs.Reading.{GivesOrMemory};
-ghost use Rattle.job_text.specs.Repeats.{repeat};
-ghost use Rattle.job_text.specs.Hyphenation.{patterns_of, run, behind_run, pattern_step, exception_step, patterns, exceptions};
+ghost use Rattle.job_reading.specs.Lexemes.{is_close};
+ghost use Rattle.job_reading.specs.Repeats.{read_until};
+ghost use Rattle.job_text.specs.Hyphenation.{patterns_of, run, behind_run, pattern_step};
+ghost use Rattle.job_text.specs.Hyphenation.{exception_step, patterns, exceptions};
 
-use crate::braces::{closed, open_brace};
-use crate::fault::{JobFault, JobFaultKind};
-use crate::reading::next;
+use crate::braces::{close_brace, open_brace};
 use crate::spelling::{exception, pattern};
-use crate::token::{Lexeme, Token};
 use items::Items;
+use job_reading::{JobFault, JobFaultKind, Lexeme, Rest, Source, Token};
 use liang_hyph::{Exception, Pattern};
 use micro_num::NoMemory;
 use std::alloc::Global;
@@ -18,17 +19,17 @@ use std::alloc::Global;
 #[tactic(auto, unfolding(crate::specs::Hyphenation::patterns))]
 pub(crate) fn patterns<'a>(
     alloc: Global,
-    end: u32,
+    source: &Source,
     lccode: &[u8; 256],
     list: &mut Items<Pattern>,
-    rest: &'a [Token],
-) -> Result<&'a [Token], JobFault>
-    ensures value { GivesOrMemory (λ x. (patterns_of list.new, x.now)) result (patterns end lccode.now (patterns_of list.old) rest.now) }
-    ensures within { IfOk result (λ x. length x.now ≤ length rest.now) }
+    rest: Rest<'a>,
+) -> Result<Rest<'a>, JobFault>
+    ensures { ChangesOrMemory (patterns_of list.new) result
+        (patterns (length source.now) lccode.now (patterns_of list.old)) rest.entry }
 {
-    let (brace, rest) = open_brace(end, rest)?;
+    let (brace, rest) = open_brace(source, rest)?;
     let left = pattern_list(alloc, lccode, list, rest)?;
-    Ok(closed(brace, left)?)
+    Ok(close_brace(brace, left)?)
 }
 
 /// The patterns up to the end of a group.
@@ -36,19 +37,19 @@ fn pattern_list<'a>(
     alloc: Global,
     lccode: &[u8; 256],
     list: &mut Items<Pattern>,
-    rest: &'a [Token],
-) -> Result<&'a [Token], JobFault>
-    ensures value { GivesOrMemory (λ x. (patterns_of list.new, x.now)) result (repeat is_close (pattern_step lccode.now) (length rest.now) (patterns_of list.old) rest.now) }
-    ensures within { IfOk result (λ x. length x.now ≤ length rest.now) }
+    rest: Rest<'a>,
+) -> Result<Rest<'a>, JobFault>
+    ensures { ChangesOrMemory (patterns_of list.new) result
+        (read_until is_close (pattern_step lccode.now) (patterns_of list.old)) rest.entry }
 {
-    let mut left = rest;
-    while let Some((token, tail)) = next(left) {
+    let mut more = rest;
+    while let Some((token, tail)) = more.next() {
         if token.lexeme.is_close() {
-            return Ok(left);
+            return Ok(more);
         }
-        left = pattern_step(alloc, lccode, list, token, left, tail)?;
+        more = pattern_step(alloc, lccode, list, token, more, tail)?;
     }
-    Ok(left)
+    Ok(more)
 }
 
 /// A pattern, or what separates patterns.
@@ -58,15 +59,15 @@ fn pattern_step<'a>(
     lccode: &[u8; 256],
     list: &mut Items<Pattern>,
     token: Token,
-    rest: &'a [Token],
-    tail: &'a [Token],
-) -> Result<&'a [Token], JobFault>
-    requires { rest.now ≡ token ∷ tail.now }
-    ensures value { GivesOrMemory (λ x. (patterns_of list.new, x.now)) result (pattern_step lccode.now (patterns_of list.old) token tail.now) }
-    ensures within { IfOk result (λ x. length x.now ≤ length tail.now) }
+    rest: Rest<'a>,
+    tail: Rest<'a>,
+) -> Result<Rest<'a>, JobFault>
+    requires { left rest ≡ token ∷ left tail }
+    ensures { ChangesOrMemory (patterns_of list.new) result
+        (pattern_step lccode.now (patterns_of list.old) token) tail.entry }
 {
     match token.lexeme {
-        Lexeme::Space | Lexeme::Par => Ok(tail),
+        Lexeme::Space | Lexeme::EmptyLine => Ok(tail),
         Lexeme::Char(_) => {
             let codes = run(alloc, rest)?;
             match pattern(alloc, lccode, codes.as_slice())? {
@@ -74,16 +75,10 @@ fn pattern_step<'a>(
                     list.push(pattern)?;
                     Ok(behind_run(tail))
                 }
-                None => Err(JobFault::At {
-                    offset: token.from,
-                    kind: JobFaultKind::BadPattern,
-                }),
+                None => Err(JobFault::from(token.fault(JobFaultKind::BadPattern))),
             }
         }
-        _ => Err(JobFault::At {
-            offset: token.from,
-            kind: JobFaultKind::BadPattern,
-        }),
+        _ => Err(JobFault::from(token.fault(JobFaultKind::BadPattern))),
     }
 }
 
@@ -91,17 +86,17 @@ fn pattern_step<'a>(
 #[tactic(auto, unfolding(crate::specs::Hyphenation::exceptions))]
 pub(crate) fn exceptions<'a>(
     alloc: Global,
-    end: u32,
+    source: &Source,
     lccode: &[u8; 256],
     list: &mut Items<Exception>,
-    rest: &'a [Token],
-) -> Result<&'a [Token], JobFault>
-    ensures value { GivesOrMemory (λ x. (list.new, x.now)) result (exceptions end lccode.now list.old rest.now) }
-    ensures within { IfOk result (λ x. length x.now ≤ length rest.now) }
+    rest: Rest<'a>,
+) -> Result<Rest<'a>, JobFault>
+    ensures { ChangesOrMemory list.new result (exceptions (length source.now) lccode.now list.old)
+        rest.entry }
 {
-    let (brace, rest) = open_brace(end, rest)?;
+    let (brace, rest) = open_brace(source, rest)?;
     let left = exception_list(alloc, lccode, list, rest)?;
-    Ok(closed(brace, left)?)
+    Ok(close_brace(brace, left)?)
 }
 
 /// The exceptions up to the end of a group.
@@ -109,19 +104,19 @@ fn exception_list<'a>(
     alloc: Global,
     lccode: &[u8; 256],
     list: &mut Items<Exception>,
-    rest: &'a [Token],
-) -> Result<&'a [Token], JobFault>
-    ensures value { GivesOrMemory (λ x. (list.new, x.now)) result (repeat is_close (exception_step lccode.now) (length rest.now) list.old rest.now) }
-    ensures within { IfOk result (λ x. length x.now ≤ length rest.now) }
+    rest: Rest<'a>,
+) -> Result<Rest<'a>, JobFault>
+    ensures { ChangesOrMemory list.new result
+        (read_until is_close (exception_step lccode.now) list.old) rest.entry }
 {
-    let mut left = rest;
-    while let Some((token, tail)) = next(left) {
+    let mut more = rest;
+    while let Some((token, tail)) = more.next() {
         if token.lexeme.is_close() {
-            return Ok(left);
+            return Ok(more);
         }
-        left = exception_step(alloc, lccode, list, token, left, tail)?;
+        more = exception_step(alloc, lccode, list, token, more, tail)?;
     }
-    Ok(left)
+    Ok(more)
 }
 
 /// An exception, or what separates exceptions.
@@ -131,15 +126,15 @@ fn exception_step<'a>(
     lccode: &[u8; 256],
     list: &mut Items<Exception>,
     token: Token,
-    rest: &'a [Token],
-    tail: &'a [Token],
-) -> Result<&'a [Token], JobFault>
-    requires { rest.now ≡ token ∷ tail.now }
-    ensures value { GivesOrMemory (λ x. (list.new, x.now)) result (exception_step lccode.now list.old token tail.now) }
-    ensures within { IfOk result (λ x. length x.now ≤ length tail.now) }
+    rest: Rest<'a>,
+    tail: Rest<'a>,
+) -> Result<Rest<'a>, JobFault>
+    requires { left rest ≡ token ∷ left tail }
+    ensures { ChangesOrMemory list.new result (exception_step lccode.now list.old token)
+        tail.entry }
 {
     match token.lexeme {
-        Lexeme::Space | Lexeme::Par => Ok(tail),
+        Lexeme::Space | Lexeme::EmptyLine => Ok(tail),
         Lexeme::Char(_) => {
             let codes = run(alloc, rest)?;
             match exception(alloc, lccode, codes.as_slice())? {
@@ -147,46 +142,40 @@ fn exception_step<'a>(
                     list.push(exception)?;
                     Ok(behind_run(tail))
                 }
-                None => Err(JobFault::At {
-                    offset: token.from,
-                    kind: JobFaultKind::BadException,
-                }),
+                None => Err(JobFault::from(token.fault(JobFaultKind::BadException))),
             }
         }
-        _ => Err(JobFault::At {
-            offset: token.from,
-            kind: JobFaultKind::BadException,
-        }),
+        _ => Err(JobFault::from(token.fault(JobFaultKind::BadException))),
     }
 }
 
 /// The codes of the Char tokens at the front.
-fn run(alloc: Global, rest: &[Token]) -> Result<Vec<u8>, NoMemory>
-    ensures { IfOk result (λ codes. codes.items ≡ run rest.now) }
+fn run(alloc: Global, rest: Rest) -> Result<Vec<u8>, NoMemory>
+    ensures { IfOk result (λ codes. codes.items ≡ run (left rest.entry)) }
 {
     let mut codes = Vec::new(alloc);
-    let mut left = rest;
-    while let Some((token, tail)) = next(left) {
+    let mut more = rest;
+    while let Some((token, tail)) = more.next() {
         let Some(code) = token.lexeme.char_code() else {
             break;
         };
         codes.push(code)?;
-        left = tail;
+        more = tail;
     }
     Ok(codes)
 }
 
 /// The tokens behind the Char tokens at the front.
-fn behind_run(rest: &[Token]) -> &[Token]
-    ensures value { result.now ≡ behind_run rest.now }
-    ensures within { length result.now ≤ length rest.now }
+fn behind_run<'a>(rest: Rest<'a>) -> Rest<'a>
+    ensures value { left result ≡ behind_run (left rest.entry) }
+    ensures within { length (left result) ≤ length (left rest.entry) }
 {
-    let mut left = rest;
-    while let Some((token, tail)) = next(left) {
+    let mut more = rest;
+    while let Some((token, tail)) = more.next() {
         if token.lexeme.char_code().is_none() {
             break;
         }
-        left = tail;
+        more = tail;
     }
-    left
+    more
 }

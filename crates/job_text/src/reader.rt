@@ -1,15 +1,17 @@
-ghost use Rattle.std.specs.Prelude.{◌≡◌, ℕ, ◌<◌, ◌^◌, List, length, IfOk};
-ghost use Rattle.job_text.specs.Answers.{Said, said_of, said_by, IsJobOf, IsFaultAt, IsAnswer, GivesJob, GivesFault};
+//! A whole job: its file is cut into tokens, which are then read from the first to the last.
+ghost use Rattle.std.specs.Prelude.{◌≡◌, ℕ, ◌<◌, ◌^◌, ◌⊎◌, List, length, IfOk};
+ghost use Rattle.job_text.specs.Answers.{HasJob, HasFault};
+ghost use Rattle.job_text.specs.Answers.{Said, said_of, said_by, IsJobOf, IsFaultAt, IsAnswer};
+ghost use Rattle.job_text.specs.Answers.{GivesJob, GivesFault};
 ghost use Rattle.job_text.specs.Fits.{JobFits};
 ghost use Rattle.job_text.specs.Job.{state_of};
-ghost use Rattle.job_text.specs.declared.fault.JobFaultKind.{JobFaultKind};
+ghost use Rattle.job_reading.specs.declared.fault.JobFaultKind.{JobFaultKind};
 
-use crate::fault::JobFault;
 use crate::job::Job;
 use crate::state::State;
-use crate::strip::grammar_tokens;
 use items::Items;
-use job_lex::tokens;
+use job_lex::{first_fault, tokens};
+use job_reading::{JobFault, Rest, Source};
 use std::alloc::Global;
 
 /// The job that the bytes of a file spell, or its first fault. The bytes are fewer than 2^32.
@@ -19,7 +21,8 @@ pub fn read_job(alloc: Global, bytes: &[u8]) -> Result<Job, JobFault>
     // What the bytes say is found unless memory runs out.
     ensures only { (said : Said) → IsJobOf bytes.now said → GivesJob result said }
     // And so is a fault, wherever there is one.
-    ensures fault { (place : ℕ) (kind : JobFaultKind) → IsFaultAt bytes.now place kind → GivesFault result place kind }
+    ensures fault { (place : ℕ) (kind : JobFaultKind) → IsFaultAt bytes.now place kind →
+        GivesFault result place kind }
     // Every job keeps to the limits.
     ensures fits { IfOk result JobFits }
 {
@@ -29,9 +32,19 @@ pub fn read_job(alloc: Global, bytes: &[u8]) -> Result<Job, JobFault>
 /// A file spells at most one job, or has one first fault, and not both.
 pub fn one_reading()
     ensures job { (bytes : List ℕ) (a b : Said) → IsJobOf bytes a → IsJobOf bytes b → a ≡ b }
-    ensures fault { (bytes : List ℕ) (place other : ℕ) (kind another : JobFaultKind) → IsFaultAt bytes place kind → IsFaultAt bytes other another → (place ≡ other) × (kind ≡ another) }
-    ensures not_both { (bytes : List ℕ) (said : Said) (place : ℕ) (kind : JobFaultKind) → IsJobOf bytes said → IsFaultAt bytes place kind → ⊥ }
+    ensures fault { (bytes : List ℕ) (place other : ℕ) (kind another : JobFaultKind) → IsFaultAt
+        bytes place kind → IsFaultAt bytes other another → (place ≡ other) × (kind ≡ another) }
+    ensures not_both { (bytes : List ℕ) (said : Said) (place : ℕ) (kind : JobFaultKind) → IsJobOf
+        bytes said → IsFaultAt bytes place kind → ⊥ }
 {}
+
+/// Every file spells a job or has a fault.
+pub fn job_or_fault(bytes: &[u8])
+    requires { length bytes.now < 2 ^ 32 }
+    ensures { HasJob bytes.now ⊎ HasFault bytes.now }
+{
+    let _ = first_fault(bytes);
+}
 
 /// What [`read_job`] reads, by its answer alone.
 fn read(alloc: Global, bytes: &[u8]) -> Result<Job, JobFault>
@@ -39,9 +52,9 @@ fn read(alloc: Global, bytes: &[u8]) -> Result<Job, JobFault>
     ensures { IsAnswer bytes.now result }
 {
     let toks = tokens(alloc, bytes)?;
-    let toks = grammar_tokens(alloc, bytes, toks.as_slice())?;
+    let source = Source::new(bytes);
     let mut state = State::new(alloc);
-    state.read(alloc, bytes, toks.as_slice())?;
+    state.read(alloc, &source, Rest::new(bytes, toks.as_slice()))?;
     Ok(job(state))
 }
 
@@ -57,6 +70,7 @@ fn job(state: State) -> Job
         exceptions,
         pars,
         params: _params,
+        shape: _shape,
         current: _current,
     } = state;
     Job {

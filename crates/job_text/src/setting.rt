@@ -1,10 +1,11 @@
+//! A paragraph as far as it was read: its parts, the current font and the open groups.
+ghost use Rattle.job_reading.specs.Reading.{Gives};
 ghost use Rattle.std.specs.Prelude.{◌≡◌, OnOk};
-ghost use Rattle.job_text.specs.Parts.{added, with_current, require_font};
-ghost use Rattle.job_text.specs.Reading.{Gives};
+ghost use Rattle.job_text.specs.Parts.{add_part, with_current, require_font};
 
-use crate::fault::{Fault, JobFaultKind};
 use crate::groups::Groups;
 use items::Items;
+use job_reading::{Fault, JobFaultKind, Token};
 use micro_num::{NoMemory, Part, PartAt};
 
 /// A paragraph as far as it was read.
@@ -19,7 +20,7 @@ pub(crate) struct Setting {
 impl Setting {
     /// One more part.
     pub(crate) fn add(&mut self, offset: u32, part: Part) -> Result<(), NoMemory>
-        ensures { OnOk result (self.new ≡ added self.old offset part) }
+        ensures { OnOk result (self.new ≡ add_part self.old offset part) }
     {
         self.parts.push(PartAt { offset, part })?;
         Ok(())
@@ -35,16 +36,13 @@ impl Setting {
         }
     }
 
-    /// That there is a current font.
-    pub(crate) fn require_font(&self, offset: u32) -> Result<(), Fault>
-        ensures { Gives (λ x. x) result (require_font self.now offset) }
+    /// That there is a current font, which a part that begins with a token needs.
+    pub(crate) fn require_font(&self, token: Token) -> Result<(), Fault>
+        ensures { Gives (λ x. x) result (require_font self.now token.from) }
     {
         match self.current {
             Some(_) => Ok(()),
-            None => Err(Fault {
-                offset,
-                kind: JobFaultKind::NoFont,
-            }),
+            None => Err(token.fault(JobFaultKind::NoFont)),
         }
     }
 }

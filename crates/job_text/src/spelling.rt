@@ -1,6 +1,8 @@
+//! How one pattern or exception is spelled (TeX: The Program, sections 935 to 940 and 961 to 963).
 ghost use Rattle.std.specs.Prelude.{◌≡◌, ◌+◌, ◌∷◌, [], None, length, vec_len, IfOk, MatchOption};
 ghost use Rattle.std.specs.Option.{option_map};
-ghost use Rattle.job_text.specs.Hyphenation.{pattern_text, ended, body, pattern_of, exception_of};
+ghost use Rattle.job_text.specs.Hyphenation.{pattern_text, pattern_end, body, pattern_of};
+ghost use Rattle.job_text.specs.Hyphenation.{exception_of};
 
 use items::Items;
 use liang_hyph::{Exception, Pattern};
@@ -16,7 +18,8 @@ pub(crate) fn pattern(
     lccode: &[u8; 256],
     codes: &[u8],
 ) -> Result<Option<Pattern>, NoMemory>
-    ensures { IfOk result (λ found. option_map pattern_text found ≡ pattern_of lccode.now codes.now) }
+    ensures { IfOk result
+        (λ found. option_map pattern_text found ≡ pattern_of lccode.now codes.now) }
 {
     match next_code(codes) {
         None => Ok(None),
@@ -32,14 +35,15 @@ fn body(
     start: bool,
     codes: &[u8],
 ) -> Result<Option<Pattern>, NoMemory>
-    ensures { IfOk result (λ found. option_map pattern_text found ≡ body lccode.now start [] [] None codes.now) }
+    ensures { IfOk result
+        (λ found. option_map pattern_text found ≡ body lccode.now start [] [] None codes.now) }
 {
     let mut letters = Vec::new(alloc);
     let mut values = Vec::new(alloc);
     let mut digit = None;
-    let mut left = codes;
-    while let Some((code, tail)) = next_code(left) {
-        left = tail;
+    let mut more = codes;
+    while let Some((code, tail)) = next_code(more) {
+        more = tail;
         if code.is_ascii_digit() {
             if digit.is_some() {
                 return Ok(None);
@@ -51,7 +55,7 @@ fn body(
             if !tail.is_empty() {
                 return Ok(None);
             }
-            return ended(start, true, letters, values, digit);
+            return pattern_end(start, true, letters, values, digit);
         }
         let letter = lccode[code as usize];
         if letter == 0 {
@@ -64,11 +68,11 @@ fn body(
         values.push(digit.unwrap_or(0))?;
         digit = None;
     }
-    ended(start, false, letters, values, digit)
+    pattern_end(start, false, letters, values, digit)
 }
 
 /// The pattern of these letters, if there are any, with the last of its values.
-fn ended(
+fn pattern_end(
     start: bool,
     end: bool,
     letters: Vec<u8>,
@@ -76,7 +80,8 @@ fn ended(
     digit: Option<u8>,
 ) -> Result<Option<Pattern>, NoMemory>
     requires { vec_len values ≡ vec_len letters }
-    ensures { IfOk result (λ found. option_map pattern_text found ≡ ended start end letters.items values.items digit) }
+    ensures { IfOk result (λ found. option_map pattern_text found ≡ pattern_end start end
+        letters.items values.items digit) }
 {
     if letters.is_empty() {
         return Ok(None);
@@ -102,9 +107,9 @@ pub(crate) fn exception(
     let mut letters = Vec::new(alloc);
     let mut places = Vec::new(alloc);
     let mut hyphen = false;
-    let mut left = codes;
-    while let Some((code, tail)) = next_code(left) {
-        left = tail;
+    let mut more = codes;
+    while let Some((code, tail)) = next_code(more) {
+        more = tail;
         if code == b'-' {
             hyphen = true;
             continue;
@@ -133,7 +138,8 @@ pub(crate) fn exception(
 
 /// The first of some codes and those behind it.
 fn next_code(codes: &[u8]) -> Option<(u8, &[u8])>
-    ensures { MatchOption result (codes.now ≡ []) (λ x. (codes.now ≡ x.0 ∷ x.1.now) × (length x.1.now + 1 ≡ length codes.now)) }
+    ensures { MatchOption result (codes.now ≡ [])
+        (λ x. (codes.now ≡ x.0 ∷ x.1.now) × (length x.1.now + 1 ≡ length codes.now)) }
 {
     match codes {
         [] => None,

@@ -1,25 +1,28 @@
+//! What a job said so far, and what each token outside paragraphs does to it (TeX: The Program,
+//! sections 1045 and 1210 to 1260).
+//!
+//! Between two steps each font has its word.
+ghost use Rattle.job_reading.specs.Reading.{ChangesOrMemory};
 ghost use Rattle.std.specs.Prelude.{◌≡◌, ◌<◌, ◌≤◌, ◌^◌, length, IfOk, OnOk};
-ghost use Rattle.job_text.specs.Lexemes.{ends_job};
-ghost use Rattle.job_text.specs.Reading.{GivesOrMemory};
-ghost use Rattle.job_text.specs.Repeats.{repeat};
-ghost use Rattle.job_text.specs.Job.{AreCounted, state_of, start, one_paragraph, select, declared, declare, word_step, is_part_symbol, job_step};
+ghost use Rattle.job_reading.specs.Lexemes.{ends_job};
+ghost use Rattle.job_reading.specs.Repeats.{read_until};
+ghost use Rattle.job_text.specs.Job.{AreCounted, state_of, start, one_paragraph, select};
+ghost use Rattle.job_text.specs.Job.{declare_early, declare, word_step, is_part_symbol, job_step};
 
 use crate::discretionary::is_character_symbol;
-use crate::fault::{JobFault, JobFaultKind};
 use crate::font::font;
 use crate::font_decl::FontDecl;
-use crate::font_words::{expansion, factor_code, hyphen_character, left_code, right_code};
-use crate::names::{Names, name_of};
+use crate::font_words::{CodeTable, assign_code, expansion, hyphen_character};
+use crate::names::Names;
 use crate::paragraph::paragraph;
-use crate::parameters::{assign_dimension, assign_glue, assign_integer};
+use crate::parameters::{assign_dimension, assign_glue, assign_integer, behind_paragraph};
 use crate::patterns::{exceptions, patterns};
-use crate::reading::next;
-use crate::tables::{lower_case, plain_tables, space_factor};
-use crate::token::{Lexeme, Token};
-use crate::word::{Declaration, Word};
+use crate::shape::shape;
+use crate::tables::{lower_case, space_factor};
 use items::Items;
+use job_reading::{Declaration, JobFault, JobFaultKind, Lexeme, Rest, Source, Token, Word};
 use liang_hyph::{Exception, Pattern};
-use micro_num::{Par, Params, Tables};
+use micro_num::{Par, Params, ShapeLine, Tables};
 use std::alloc::Global;
 
 /// The most paragraphs of a job.
@@ -35,6 +38,8 @@ pub(crate) struct State {
     pub exceptions: Items<Exception>,
     pub pars: Items<Par>,
     pub params: Params,
+    /// The shape of the next paragraph, which is empty where it has none.
+    pub shape: Items<ShapeLine>,
     /// The current font, None before one was selected.
     pub current: Option<u32>,
 }
@@ -48,11 +53,12 @@ impl State {
         State {
             fonts: Vec::new(alloc),
             names: Names::new(alloc),
-            tables: plain_tables(),
+            tables: Tables::plain(),
             patterns: Items::new(alloc),
             exceptions: Items::new(alloc),
             pars: Items::new(alloc),
             params: Params::plain(),
+            shape: Items::new(alloc),
             current: None,
         }
     }
@@ -61,21 +67,21 @@ impl State {
     pub(crate) fn read<'a>(
         &mut self,
         alloc: Global,
-        bytes: &[u8],
-        rest: &'a [Token],
-    ) -> Result<&'a [Token], JobFault>
-        requires small { length bytes.now < 2 ^ 32 }
+        source: &Source,
+        rest: Rest<'a>,
+    ) -> Result<Rest<'a>, JobFault>
         requires counts { AreCounted self.old }
-        ensures { GivesOrMemory (λ x. (state_of self.new, x.now)) result (repeat ends_job (job_step bytes.now) (length rest.now) (state_of self.old) rest.now) }
+        ensures { ChangesOrMemory (state_of self.new) result
+            (read_until ends_job (job_step source.now) (state_of self.old)) rest.entry }
     {
-        let mut left = rest;
-        while let Some((token, tail)) = next(left) {
+        let mut more = rest;
+        while let Some((token, tail)) = more.next() {
             if token.lexeme.ends_job() {
-                return Ok(left);
+                return Ok(more);
             }
-            left = self.step(alloc, bytes, token, tail)?;
+            more = self.step(alloc, source, token, tail)?;
         }
-        Ok(left)
+        Ok(more)
     }
 
     /// Reads what a token begins outside paragraphs.
@@ -83,36 +89,29 @@ impl State {
     fn step<'a>(
         &mut self,
         alloc: Global,
-        bytes: &[u8],
+        source: &Source,
         token: Token,
-        tail: &'a [Token],
-    ) -> Result<&'a [Token], JobFault>
-        requires small { length bytes.now < 2 ^ 32 }
+        tail: Rest<'a>,
+    ) -> Result<Rest<'a>, JobFault>
         requires counts { AreCounted self.old }
-        ensures value { GivesOrMemory (λ x. (state_of self.new, x.now)) result (job_step bytes.now (state_of self.old) token tail.now) }
+        ensures value { ChangesOrMemory (state_of self.new) result
+            (job_step source.now (state_of self.old) token) tail.entry }
         ensures counts { OnOk result (AreCounted self.new) }
-        ensures within { IfOk result (λ x. length x.now ≤ length tail.now) }
     {
         match token.lexeme {
-            Lexeme::Space | Lexeme::Par => Ok(tail),
-            Lexeme::Close => Err(JobFault::At {
-                offset: token.from,
-                kind: JobFaultKind::StrayBrace,
-            }),
-            Lexeme::Letter(_) | Lexeme::Name => self.select(bytes, token, tail),
-            Lexeme::Word(word) => self.word(alloc, bytes, token, word, tail),
+            Lexeme::Space | Lexeme::EmptyLine => Ok(tail),
+            Lexeme::Close => Err(JobFault::from(token.fault(JobFaultKind::StrayBrace))),
+            Lexeme::Letter(_) | Lexeme::Name => self.select(source, token, tail),
+            Lexeme::Word(word) => self.word(alloc, source, token, word, tail),
             Lexeme::Symbol(code) => {
                 if is_part_symbol(code) {
-                    self.paragraph(alloc, bytes, token.from, Some(token), tail)
+                    self.paragraph(alloc, source, token, Some(token), tail)
                 } else {
-                    Err(JobFault::At {
-                        offset: token.from,
-                        kind: JobFaultKind::UnknownWord,
-                    })
+                    Err(JobFault::from(token.fault(JobFaultKind::UnknownWord)))
                 }
             }
             Lexeme::Char(_) | Lexeme::Tie | Lexeme::Open => {
-                self.paragraph(alloc, bytes, token.from, Some(token), tail)
+                self.paragraph(alloc, source, token, Some(token), tail)
             }
         }
     }
@@ -121,24 +120,21 @@ impl State {
     #[tactic(auto, unfolding(crate::specs::Job::select))]
     fn select<'a>(
         &mut self,
-        bytes: &[u8],
+        source: &Source,
         token: Token,
-        tail: &'a [Token],
-    ) -> Result<&'a [Token], JobFault>
+        tail: Rest<'a>,
+    ) -> Result<Rest<'a>, JobFault>
         requires counts { AreCounted self.old }
-        ensures value { GivesOrMemory (λ x. (state_of self.new, x.now)) result (select bytes.now (state_of self.old) token tail.now) }
+        ensures value { ChangesOrMemory (state_of self.new) result
+            (select source.now (state_of self.old) token) tail.entry }
         ensures counts { OnOk result (AreCounted self.new) }
-        ensures within { IfOk result (λ x. length x.now ≤ length tail.now) }
     {
-        match self.names.find(name_of(bytes, token)) {
+        match self.names.find(source.name(token)) {
             Some(font) => {
                 self.current = Some(font);
                 Ok(tail)
             }
-            None => Err(JobFault::At {
-                offset: token.from,
-                kind: JobFaultKind::UnknownWord,
-            }),
+            None => Err(JobFault::from(token.fault(JobFaultKind::UnknownWord))),
         }
     }
 
@@ -147,34 +143,37 @@ impl State {
     fn word<'a>(
         &mut self,
         alloc: Global,
-        bytes: &[u8],
+        source: &Source,
         token: Token,
         word: Word,
-        tail: &'a [Token],
-    ) -> Result<&'a [Token], JobFault>
-        requires small { length bytes.now < 2 ^ 32 }
+        tail: Rest<'a>,
+    ) -> Result<Rest<'a>, JobFault>
         requires counts { AreCounted self.old }
-        ensures value { GivesOrMemory (λ x. (state_of self.new, x.now)) result (word_step bytes.now (state_of self.old) token word tail.now) }
+        ensures value { ChangesOrMemory (state_of self.new) result
+            (word_step source.now (state_of self.old) token word) tail.entry }
         ensures counts { OnOk result (AreCounted self.new) }
-        ensures within { IfOk result (λ x. length x.now ≤ length tail.now) }
     {
-        let end = bytes.len() as u32;
         match word {
-            Word::Par | Word::Relax | Word::Bye | Word::End => Ok(tail),
-            Word::Noindent => self.paragraph(alloc, bytes, token.from, None, tail),
+            Word::ParEnd | Word::Relax | Word::Bye | Word::End => Ok(tail),
+            Word::Noindent => self.paragraph(alloc, source, token, None, tail),
             Word::Char | Word::Kern | Word::Hskip | Word::Penalty | Word::Discretionary => {
-                self.paragraph(alloc, bytes, token.from, Some(token), tail)
+                self.paragraph(alloc, source, token, Some(token), tail)
+            }
+            Word::Parshape => {
+                let (shape, behind) = shape(alloc, source, tail)?;
+                self.shape = shape;
+                Ok(behind)
             }
             Word::Declaration(declaration) => {
-                self.declare(alloc, bytes, token.from, declaration, tail)
+                self.declare(alloc, source, token, declaration, tail)
             }
             Word::Integer(parameter) => {
-                Ok(assign_integer(&mut self.params, parameter, end, tail)?)
+                Ok(assign_integer(&mut self.params, parameter, source, tail)?)
             }
             Word::Dimension(parameter) => {
-                Ok(assign_dimension(&mut self.params, parameter, end, tail)?)
+                Ok(assign_dimension(&mut self.params, parameter, source, tail)?)
             }
-            Word::Glue(parameter) => Ok(assign_glue(&mut self.params, parameter, end, tail)?),
+            Word::Glue(parameter) => Ok(assign_glue(&mut self.params, parameter, source, tail)?),
         }
     }
 
@@ -183,62 +182,80 @@ impl State {
     fn declare<'a>(
         &mut self,
         alloc: Global,
-        bytes: &[u8],
-        from: u32,
+        source: &Source,
+        token: Token,
         declaration: Declaration,
-        tail: &'a [Token],
-    ) -> Result<&'a [Token], JobFault>
-        requires small { length bytes.now < 2 ^ 32 }
+        tail: Rest<'a>,
+    ) -> Result<Rest<'a>, JobFault>
         requires counts { AreCounted self.old }
-        ensures value { GivesOrMemory (λ x. (state_of self.new, x.now)) result (declare bytes.now (state_of self.old) from declaration tail.now) }
+        ensures value { ChangesOrMemory (state_of self.new) result
+            (declare source.now (state_of self.old) token.from declaration) tail.entry }
         ensures counts { OnOk result (AreCounted self.new) }
-        ensures within { IfOk result (λ x. length x.now ≤ length tail.now) }
     {
         if self.pars.len() == 0 {
-            self.declared(alloc, bytes, from, declaration, tail)
+            self.declare_early(alloc, source, token, declaration, tail)
         } else {
-            Err(JobFault::At {
-                offset: from,
-                kind: JobFaultKind::LateDeclaration,
-            })
+            Err(JobFault::from(token.fault(JobFaultKind::LateDeclaration)))
         }
     }
 
     /// A declaration in its place.
-    #[tactic(auto, unfolding(crate::specs::Job::declared))]
-    fn declared<'a>(
+    #[tactic(auto, unfolding(crate::specs::Job::declare_early))]
+    fn declare_early<'a>(
         &mut self,
         alloc: Global,
-        bytes: &[u8],
-        from: u32,
+        source: &Source,
+        token: Token,
         declaration: Declaration,
-        tail: &'a [Token],
-    ) -> Result<&'a [Token], JobFault>
-        requires small { length bytes.now < 2 ^ 32 }
+        tail: Rest<'a>,
+    ) -> Result<Rest<'a>, JobFault>
         requires counts { AreCounted self.old }
-        ensures value { GivesOrMemory (λ x. (state_of self.new, x.now)) result (declared bytes.now (state_of self.old) from declaration tail.now) }
+        ensures value { ChangesOrMemory (state_of self.new) result
+            (declare_early source.now (state_of self.old) token.from declaration) tail.entry }
         ensures counts { OnOk result (AreCounted self.new) }
-        ensures within { IfOk result (λ x. length x.now ≤ length tail.now) }
     {
-        let end = bytes.len() as u32;
         match declaration {
-            Declaration::Font => font(alloc, bytes, &mut self.names, &mut self.fonts, from, tail),
-            Declaration::Lpcode => Ok(left_code(bytes, &self.names, &mut self.fonts, tail)?),
-            Declaration::Rpcode => Ok(right_code(bytes, &self.names, &mut self.fonts, tail)?),
-            Declaration::Efcode => Ok(factor_code(bytes, &self.names, &mut self.fonts, tail)?),
+            Declaration::Font => font(alloc, source, &mut self.names, &mut self.fonts, token, tail),
+            Declaration::Lpcode => Ok(assign_code(
+                CodeTable::Left,
+                source,
+                &self.names,
+                &mut self.fonts,
+                tail,
+            )?),
+            Declaration::Rpcode => Ok(assign_code(
+                CodeTable::Right,
+                source,
+                &self.names,
+                &mut self.fonts,
+                tail,
+            )?),
+            Declaration::Efcode => Ok(assign_code(
+                CodeTable::Factor,
+                source,
+                &self.names,
+                &mut self.fonts,
+                tail,
+            )?),
             Declaration::Pdffontexpand => {
-                Ok(expansion(bytes, &self.names, &mut self.fonts, from, tail)?)
+                Ok(expansion(source, &self.names, &mut self.fonts, token, tail)?)
             }
             Declaration::Hyphenchar => {
-                Ok(hyphen_character(bytes, &self.names, &mut self.fonts, tail)?)
+                Ok(hyphen_character(source, &self.names, &mut self.fonts, tail)?)
             }
-            Declaration::Sfcode => Ok(space_factor(&mut self.tables, end, tail)?),
-            Declaration::Lccode => Ok(lower_case(&mut self.tables, end, tail)?),
+            Declaration::Sfcode => Ok(space_factor(&mut self.tables, source, tail)?),
+            Declaration::Lccode => Ok(lower_case(&mut self.tables, source, tail)?),
             Declaration::Patterns => {
-                patterns(alloc, end, &self.tables.lccode, &mut self.patterns, tail)
+                patterns(alloc, source, &self.tables.lccode, &mut self.patterns, tail)
             }
             Declaration::Hyphenation => {
-                exceptions(alloc, end, &self.tables.lccode, &mut self.exceptions, tail)
+                exceptions(
+                    alloc,
+                    source,
+                    &self.tables.lccode,
+                    &mut self.exceptions,
+                    tail,
+                )
             }
         }
     }
@@ -248,38 +265,36 @@ impl State {
     fn paragraph<'a>(
         &mut self,
         alloc: Global,
-        bytes: &[u8],
-        from: u32,
+        source: &Source,
+        token: Token,
         first: Option<Token>,
-        tail: &'a [Token],
-    ) -> Result<&'a [Token], JobFault>
-        requires small { length bytes.now < 2 ^ 32 }
+        tail: Rest<'a>,
+    ) -> Result<Rest<'a>, JobFault>
         requires counts { AreCounted self.old }
-        ensures value { GivesOrMemory (λ x. (state_of self.new, x.now)) result (one_paragraph bytes.now (state_of self.old) from first tail.now) }
+        ensures value { ChangesOrMemory (state_of self.new) result
+            (one_paragraph source.now (state_of self.old) token.from first) tail.entry }
         ensures counts { OnOk result (AreCounted self.new) }
-        ensures within { IfOk result (λ x. length x.now ≤ length tail.now) }
     {
         if self.pars.len() >= MOST_PARAGRAPHS {
-            return Err(JobFault::At {
-                offset: from,
-                kind: JobFaultKind::TooManyParagraphs,
-            });
+            return Err(JobFault::from(token.fault(JobFaultKind::TooManyParagraphs)));
         }
-        let (parts, current, behind) = paragraph(
+        let ((parts, current), behind) = paragraph(
             alloc,
-            bytes,
+            source,
             &self.names,
             self.current,
-            from,
+            token.from,
             first,
             tail,
         )?;
         let par = Par {
             params: self.params,
             indent: first.is_some(),
+            shape: std::mem::replace(&mut self.shape, Items::new(alloc)),
             parts,
         };
         self.pars.push(par)?;
+        behind_paragraph(&mut self.params);
         self.current = current;
         Ok(behind)
     }

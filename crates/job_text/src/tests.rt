@@ -1,6 +1,7 @@
-use crate::fault::{JobFault, JobFaultKind};
+//! Each fault at its place, the limits of fonts, paragraphs and shapes, and a job that is read.
 use crate::reader::read_job;
 use font_stock::Size;
+use job_reading::{JobFault, JobFaultKind};
 use micro_num::Part;
 use std::alloc::Global;
 use std::test::Fail;
@@ -34,6 +35,21 @@ fn each_fault_stands_at_its_place(rt: HostRuntime) -> Result<(), Fail> {
         (b"}", 0, 22),
         (b"\\font\\f=t \\f \\discretionary{{", 28, 23),
         (b"\\patterns a", 10, 24),
+        (b"\\parshape 1025", 10, 3),
+        (b"\\parshape=+1025", 10, 3),
+        (b"\\parshape 2 1pt 2pt 3pt\\relax", 23, 2),
+        (b"\\parshape 1 1pt -16384pt", 16, 5),
+        (b"\\looseness=2147483648 ", 11, 3),
+        (b"\\hangafter=\\relax", 11, 2),
+        (b"\\hangindent=5 x", 14, 4),
+        (b"\\font\\f=t \\f a\\looseness=1 ", 14, 7),
+        (b"\\font\\f=t \\f a\\hangindent=1pt ", 14, 7),
+        (b"\\font\\f=t \\f a\\hangafter=1 ", 14, 7),
+        (b"\\font\\f=t \\f {\\parshape 0 ", 14, 7),
+        (b"\\font\\parshape=t", 5, 20),
+        (b"\\font\\f=t \\f \\discretionary{\\looseness}{}{}", 28, 23),
+        (b"\\patterns{a\\hangafter}", 11, 9),
+        (b"\\patterns\\looseness", 9, 24),
     ];
     for (bytes, place, number) in cases {
         assert!(rt; bytes.len() < 1 << 32);
@@ -129,5 +145,45 @@ fn a_job_is_read(rt: HostRuntime) -> Result<(), Fail> {
     assert!(rt; matches!(letter.part, Part::Char { code: 120 }));
     assert_eq!(rt; start.offset, 60);
     assert_eq!(rt; letter.offset, 60);
+    Ok(())
+}
+
+/// A paragraph by its number from 0, its looseness, hangindent and hangafter, how many lines its
+/// shape has, and the width of the last of them.
+type Settings = (usize, i32, i32, i32, usize, i32);
+
+#[test]
+fn settings_of_a_paragraph_end_with_it(rt: HostRuntime) -> Result<(), Fail> {
+    let cases: &[(&[u8], Settings)] = &[
+        (b"\\looseness=-1 {}\\par{}", (0, -1, 0, 1, 0, 0)),
+        (b"\\looseness=-1 {}\\par{}", (1, 0, 0, 1, 0, 0)),
+        (b"\\hangindent 2pt{}\n\n{}", (0, 0, 131072, 1, 0, 0)),
+        (b"\\hangindent 2pt{}\n\n{}", (1, 0, 0, 1, 0, 0)),
+        (b"\\hangafter=3{}\\par\\relax{}", (0, 0, 0, 3, 0, 0)),
+        (b"\\hangafter=3{}\\par\\relax{}", (1, 0, 0, 1, 0, 0)),
+        (
+            b"\\parshape 2 1pt 2pt 0pt3pt{}\\par{}",
+            (0, 0, 0, 1, 2, 196608),
+        ),
+        (b"\\parshape 2 1pt 2pt 0pt3pt{}\\par{}", (1, 0, 0, 1, 0, 0)),
+        (b"\\parshape 1 1pt 2pt\\parshape-1{}", (0, 0, 0, 1, 0, 0)),
+        (
+            b"\\looseness2\\hangafter-3\\par\\relax{}\\bye{}",
+            (0, 2, 0, -3, 0, 0),
+        ),
+    ];
+    for (bytes, (number, looseness, hangindent, hangafter, lines, width)) in cases {
+        assert!(rt; bytes.len() < 1 << 32);
+        let job = read_job(rt.alloc(), bytes)?;
+        let Some(par) = job.pars.as_slice().get(*number) else {
+            panic!(rt; "too few paragraphs in {bytes:?}");
+        };
+        assert_eq!(rt; par.params.looseness, *looseness, "in {bytes:?}");
+        assert_eq!(rt; par.params.hangindent, *hangindent, "in {bytes:?}");
+        assert_eq!(rt; par.params.hangafter, *hangafter, "in {bytes:?}");
+        assert_eq!(rt; par.shape.len(), *lines, "in {bytes:?}");
+        let last = par.shape.as_slice().last().map_or(0, |line| line.width);
+        assert_eq!(rt; last, *width, "in {bytes:?}");
+    }
     Ok(())
 }

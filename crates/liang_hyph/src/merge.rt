@@ -1,3 +1,5 @@
+//! Two patterns with the same letters as one: the greater value at each place (Liang, Word
+//! hy-phen-a-tion by com-put-er).
 ghost use Rattle.std.specs.Prelude.{◌≡◌, ◌≤◌, ◌&&◌, ℕ, max, length, IfOk};
 ghost use Rattle.std.specs.List.{All};
 ghost use Rattle.liang_hyph.specs.Table.{IsMerged, IsListed, same_bool};
@@ -11,7 +13,8 @@ use std::alloc::Global;
 
 /// At each place the greater of two rows' values.
 fn greater(alloc: Global, first: &[u8], second: &[u8]) -> Result<Items<u8>, NoMemory>
-    ensures { IfOk result (λ both. (at h : ℕ) → value_at both at h ≡ max (value_at first.now at h) (value_at second.now at h)) }
+    ensures { IfOk result (λ both. (at h : ℕ)
+        → value_at both at h ≡ max (value_at first.now at h) (value_at second.now at h)) }
 {
     let len = first.len().max(second.len());
     let mut both = Vec::with_capacity(alloc, len)?;

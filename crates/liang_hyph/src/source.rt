@@ -1,3 +1,4 @@
+//! Patterns and exceptions as a job hands them in (TeX: The Program, parts 42 and 43).
 ghost use Rattle.std.specs.Prelude.{◌≡◌, ◌+◌, length};
 
 use items::Items;
@@ -9,8 +10,8 @@ use items::Items;
 pub struct Pattern {
     /// The letters, in lower case.
     pub letters: Items<u8>,
-    /// One value more than there are letters: entry h belongs to the place after h letters, and is 0
-    /// where the pattern says nothing of it.
+    /// One value more than there are letters: entry h belongs to the place after h letters, and is
+    /// 0 where the pattern says nothing of it.
     pub values: Items<u8>,
     /// Whether the pattern occurs only at the beginning of a word.
     pub start: bool,

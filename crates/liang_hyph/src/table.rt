@@ -1,3 +1,5 @@
+//! Patterns and exceptions ready to be looked up, and the hyphen places of a word by them (TeX: The
+//! Program, part 40; Liang, Word hy-phen-a-tion by com-put-er).
 ghost use Rattle.std.specs.Prelude.{◌≡◌, ◌==◌, ◌+◌, ◌-◌, ◌%◌, ◌<◌, ◌≤◌, ℕ, max, length, slice_index, IfOk};
 ghost use Rattle.std.specs.List.{All};
 ghost use Rattle.std.specs.List.Sorted.{IsStrictlyIncreasing};
@@ -31,9 +33,21 @@ impl Model for Patterns {
 
     ghost Value = { PatternTable };
 
-    ghost view = { λ p. record { anywhere = p.anywhere; at_start = p.at_start; at_end = p.at_end; as_word = p.as_word; exceptions = p.exceptions } };
+    ghost view = { λ p. record {
+      anywhere = p.anywhere;
+      at_start = p.at_start;
+      at_end = p.at_end;
+      as_word = p.as_word;
+      exceptions = p.exceptions;
+    } };
 
-    ghost invariant = { λ p. IsSilentPast p.longest (record { anywhere = p.anywhere; at_start = p.at_start; at_end = p.at_end; as_word = p.as_word; exceptions = p.exceptions }) };
+    ghost invariant = { λ p. IsSilentPast p.longest (record {
+      anywhere = p.anywhere;
+      at_start = p.at_start;
+      at_end = p.at_end;
+      as_word = p.as_word;
+      exceptions = p.exceptions;
+    }) };
 }
 
 impl Patterns {
@@ -57,11 +71,11 @@ impl Patterns {
         })
     }
 
-    /// The places of a word of 1 to 63 letters where it may be hyphenated, ascending. A place is the
-    /// number of letters before it; at least `left` letters stand before each place and at least
-    /// `right` after it, where a margin below 1 counts as 1 and one above 63 as 63. A word that is an
-    /// exception has the exception's places, any other those where the greatest value of all
-    /// patterns that occur in it is odd. It fails only for want of memory.
+    /// The places of a word of 1 to 63 letters where it may be hyphenated, ascending. A place is
+    /// the number of letters before it; at least `left` letters stand before each place and at
+    /// least `right` after it, where a margin below 1 counts as 1 and one above 63 as 63. A word
+    /// that is an exception has the exception's places, any other those where the greatest value of
+    /// all patterns that occur in it is odd. It fails only for want of memory.
     pub fn places(
         &self,
         alloc: Global,
@@ -71,9 +85,11 @@ impl Patterns {
     ) -> Result<Vec<u8>, NoMemory>
         requires not_empty { 0 < length word.now }
         requires short { length word.now ≤ 63 }
-        ensures read { IfOk result (λ places. places.items ≡ places_read self.now word.now left right) }
+        ensures read { IfOk result (λ places.
+            places.items ≡ places_read self.now word.now left right) }
         ensures ascends { IfOk result (λ places. IsStrictlyIncreasing places.items) }
-        ensures inside { IfOk result (λ places. All (λ h. (0 < h) × (h < length word.now)) places.items) }
+        ensures inside { IfOk result (λ places.
+            All (λ h. (0 < h) × (h < length word.now)) places.items) }
     {
         let values = self.values(word);
         odd_places(alloc, &values, word.len(), left, right)
@@ -82,7 +98,9 @@ impl Patterns {
     /// Values that are odd at the places where the word may be broken.
     fn values(&self, word: &[u8]) -> [u8; PLACES]
         requires { length word.now ≤ 63 }
-        ensures { (h : ℕ) → h < 64 → (slice_index result h % 2 == 1) ≡ is_break (lookup (bytes_eq word.now) self.now.exceptions) (value_read self.now word.now h) h }
+        ensures { (h : ℕ) → h < 64 → (slice_index result h % 2 == 1)
+            ≡ is_break (lookup (bytes_eq word.now) self.now.exceptions)
+            (value_read self.now word.now h) h }
     {
         match self.exceptions.find(word) {
             Some(places) => odd_at(places),
@@ -107,7 +125,10 @@ impl Patterns {
     fn raise_parts(&self, values: &mut [u8; PLACES], word: &[u8], at: usize)
         requires short { length word.now ≤ 63 }
         requires inside { at ≤ length word.now }
-        ensures { (h : ℕ) → h < 64 → slice_index values.new h ≡ max (slice_index values.old h) (greatest_below (λ count. value_of_part self.now word.now at count h) (length word.now - at + 1)) }
+        ensures { (h : ℕ) → h < 64 → slice_index values.new h
+            ≡ max (slice_index values.old h)
+            (greatest_below (λ count. value_of_part self.now word.now at count h)
+            (length word.now - at + 1)) }
     {
         let most = self.longest.min(word.len() - at);
         for count in 0..most + 1 {
@@ -115,11 +136,13 @@ impl Patterns {
         }
     }
 
-    /// Raises the values to those of the rows under `count` letters of the word after its first `at`.
+    /// Raises the values to those of the rows under `count` letters of the word after its first
+    /// `at`.
     fn raise_part(&self, values: &mut [u8; PLACES], word: &[u8], at: usize, count: usize)
         requires short { length word.now ≤ 63 }
         requires inside { at + count ≤ length word.now }
-        ensures { (h : ℕ) → h < 64 → slice_index values.new h ≡ max (slice_index values.old h) (value_of_part self.now word.now at count h) }
+        ensures { (h : ℕ) → h < 64 → slice_index values.new h
+            ≡ max (slice_index values.old h) (value_of_part self.now word.now at count h) }
     {
         let letters = &word[at..at + count];
         let starts = at == 0;

@@ -1,3 +1,4 @@
+//! Tests of what no clause says: that tables are made and places are found, with memory enough.
 ghost use Rattle.std.specs.Prelude.{◌≡◌, ◌<◌, ◌≤◌, length, IfOk};
 ghost use Rattle.liang_hyph.specs.Places.{places_of};
 
@@ -18,7 +19,8 @@ fn places_by_lists(
 ) -> Result<Vec<u8>, NoMemory>
     requires not_empty { 0 < length word.now }
     requires short { length word.now ≤ 63 }
-    ensures { IfOk result (λ places. places.items ≡ places_of patterns.now exceptions.now word.now left right) }
+    ensures { IfOk result (λ places.
+        places.items ≡ places_of patterns.now exceptions.now word.now left right) }
 {
     let table = Patterns::make(alloc, patterns, exceptions)?;
     table.places(alloc, word, left, right)
@@ -119,7 +121,8 @@ const THESIS: &str = "hy3ph he2n hena4 hen5at 1na n2at 1tio 2io";
 fn words_by_patterns_and_exceptions(rt: HostRuntime) {
     let cases = [
         (THESIS, "", "hyphenation", (2, 3), "hy-phen-ation"),
-        // Margins: those below 1 count as 1, a place may stand right at one, and too large ones leave none.
+        // Margins: those below 1 count as 1, a place may stand right at one, and too large ones
+        // leave none.
         ("1a", "", "aaaa", (0, -5), "a-a-a-a"),
         ("1a", "", "aaaa", (2, 2), "aa-aa"),
         ("1a", "", "aaaa", (3, 2), "aaaa"),

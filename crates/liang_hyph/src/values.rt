@@ -1,3 +1,4 @@
+//! The values at the places of a word, raised by one occurrence of a pattern after the other.
 ghost use Rattle.std.specs.Prelude.{◌≡◌, ◌==◌, ◌&&◌, ℕ, ◌<◌, ◌≤◌, ◌+◌, nat_le, ◌%◌, max, length, slice_index, IfOk};
 ghost use Rattle.std.specs.List.{All, list_any};
 ghost use Rattle.std.specs.List.Sorted.{IsStrictlyIncreasing};
@@ -11,7 +12,8 @@ pub(crate) const PLACES: usize = 64;
 
 /// Raises the values to those of a row that begins at the place `at`.
 pub(crate) fn raise(values: &mut [u8], at: usize, row: &[u8])
-    ensures { (h : ℕ) → h < length values.old → slice_index values.new h ≡ max (slice_index values.old h) (value_at row.now at h) }
+    ensures { (h : ℕ) → h < length values.old → slice_index values.new h
+        ≡ max (slice_index values.old h) (value_at row.now at h) }
 {
     for h in at..values.len() {
         match row.get(h - at) {
@@ -23,7 +25,8 @@ pub(crate) fn raise(values: &mut [u8], at: usize, row: &[u8])
 
 /// Values that are odd at the listed places alone.
 pub(crate) fn odd_at(places: &[u8]) -> [u8; PLACES]
-    ensures { (h : ℕ) → h < 64 → (slice_index result h % 2 == 1) ≡ list_any (λ place. place == h) places.now }
+    ensures { (h : ℕ) → h < 64 → (slice_index result h % 2 == 1)
+        ≡ list_any (λ place. place == h) places.now }
 {
     let mut values = [0; PLACES];
     for place in places {
@@ -44,7 +47,8 @@ fn clamp_margin(letters: i32) -> usize
     letters.clamp(1, 63) as usize
 }
 
-/// Whether the word may be broken at a place with this value, `before` and `after` being its margins.
+/// Whether the word may be broken at a place with this value, `before` and `after` being its
+/// margins.
 fn allows_break(before: usize, after: usize, len: usize, h: usize, value: u8) -> bool
     requires margin { after ≤ 63 }
     requires place { h ≤ len }
@@ -63,7 +67,8 @@ pub(crate) fn odd_places(
     right: i32,
 ) -> Result<Vec<u8>, NoMemory>
     requires { len < 64 }
-    ensures read { IfOk result (λ places. places.items ≡ places_within len left right (λ h. slice_index values.now h % 2 == 1)) }
+    ensures read { IfOk result (λ places. places.items
+        ≡ places_within len left right (λ h. slice_index values.now h % 2 == 1)) }
     ensures ascends { IfOk result (λ places. IsStrictlyIncreasing places.items) }
     ensures inside { IfOk result (λ places. All (λ h. (0 < h) × (h < len)) places.items) }
 {

@@ -1,6 +1,6 @@
 -- What the answers of a run say of one another.
-use Rattle.std.proofs.Common.{◌≡◌, ℕ, ◌<◌, ◌⊎◌, Bool, true, false, List, length, refl, ap, sym, subst, ◌∙◌, arith, inl, inr}
-use Rattle.std.specs.Prelude.{Result, Ok, Err, IfOk}
+use Rattle.std.proofs.Common.{◌≡◌, ℕ, ◌<◌, ◌⊎◌, Bool, true, false, List, refl, ap, sym, ◌∙◌, arith, inl, inr}
+use Rattle.std.specs.Prelude.{Result, Ok, Err}
 use Rattle.std.proofs.lemmas.Bool.Decides.{leb_tells}
 use Rattle.tfm_read.specs.declared.character.CharInfo.{CharInfo}
 use Rattle.tfm_read.specs.declared.tfm.Tfm.{Tfm}
@@ -8,9 +8,6 @@ use Rattle.lig_kern.specs.Running.{start_of, limit_of, AllExist, IsFirstMissing,
 use Rattle.lig_kern.specs.declared.fault.LigFault.{LigFault}
 use Rattle.lig_kern.specs.declared.fault.LigFault.TheVariants.{TooManySteps, Missing, NoMemory}
 use Rattle.lig_kern.specs.declared.glyph.Glyph.{Glyph}
-use Rattle.lig_kern.specs.Covering.{Cuts, KernsApart}
-use Rattle.lig_kern.proofs.CoverLemmas.{ends-cut}
-use Rattle.lig_kern.proofs.KernLemmas.{ends-apart}
 use Rattle.lig_kern.proofs.EndLemmas.{glyphs-unique, ends-or_past}
 
 -- the end of the rewriting is the answer of the run
@@ -64,20 +61,3 @@ only-past tfm codes left right (Err TooManySteps) answer run = inl refl
 only-past tfm codes left right (Err (Missing index)) answer run =
     absurd (none-missing tfm.chars codes index run.exist answer)
 only-past tfm codes left right (Err NoMemory) answer run = inr refl
-
--- the glyphs cover the codes, and no two kerns stand side by side
-pub answers-cut : (tfm : Tfm) (codes : List ℕ) (left right : Bool) (result : Result (List Glyph) LigFault)
-    → Answers tfm codes left right result → IfOk result (Cuts 0 (length codes))
-answers-cut tfm codes left right (Ok glyphs) answer =
-    let ends = answer.ends in
-    let P : List Glyph → Type 0 = Cuts 0 (length codes) in
-    subst P ends.gives (ends-cut tfm codes left right ends.acted ends.symbols ends.ends)
-answers-cut tfm codes left right (Err fault) answer = tt
-
-pub answers-apart : (tfm : Tfm) (codes : List ℕ) (left right : Bool) (result : Result (List Glyph) LigFault)
-    → Answers tfm codes left right result → IfOk result KernsApart
-answers-apart tfm codes left right (Ok glyphs) answer =
-    let ends = answer.ends in
-    let P : List Glyph → Type 0 = KernsApart in
-    subst P ends.gives (ends-apart tfm codes left right ends.acted ends.symbols ends.ends)
-answers-apart tfm codes left right (Err fault) answer = tt

@@ -143,3 +143,22 @@ pub ends-cut : (tfm : Tfm) (codes : List ℕ) (left right : Bool) (acted : ℕ) 
 ends-cut tfm codes left right acted symbols r =
     let all = reached-adjoins tfm (start_of tfm codes left right) (length codes) acted symbols [] (start-adjoins tfm codes left right) r in
     cuts-of 0 (length codes) symbols (rw append-nil at all)
+
+-- two symbols side by side: each ends where it begins or later, and the one begins where the other ends
+pub record Meet (current follower : Symbol) : Type 0 where
+  pub first : current.from ≤ current.to
+  pub place : follower.from ≡ current.to
+  pub second : follower.from ≤ follower.to
+
+-- neighbours of each state meet
+pub reached-meet : (tfm : Tfm) (codes : List ℕ) (left right : Bool) (acted : ℕ) (before : List Symbol) (current follower : Symbol)
+    (rest : List Symbol) → Reached tfm (start_of tfm codes left right) acted before (current ∷ follower ∷ rest)
+    → Meet current follower
+reached-meet tfm codes left right acted before current follower rest r =
+    let all = reached-adjoins tfm (start_of tfm codes left right) (length codes) acted before (current ∷ follower ∷ rest) (start-adjoins tfm codes left right) r in
+    let (middle, front, back) = Adjoins-split 0 (length codes) before (current ∷ follower ∷ rest) all in
+    record {
+      first = Fits-≤ current.kind current.from current.to back.1;
+      place = back.2.0;
+      second = Fits-≤ follower.kind follower.from follower.to back.2.1;
+    }

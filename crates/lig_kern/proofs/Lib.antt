@@ -7,3 +7,7 @@ pub mod PlainLemmas
 pub mod StepLemmas
 pub mod SymbolLemmas
 pub mod WalkLemmas
+pub mod OutcomeLemmas
+pub mod OwnLemmas
+pub mod UnionLemmas
+pub mod Rows

@@ -3,3 +3,4 @@ pub mod Programs
 pub mod Rewriting
 pub mod Running
 pub mod Covering
+pub mod Outcome

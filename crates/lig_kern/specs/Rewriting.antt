@@ -23,13 +23,26 @@ parts_of op = record { passes = op / 4; keeps_current = op / 2 % 2 == 1; keeps_n
 unfoldable pub operation_of : ℕ → Operation
 operation_of op = if has_meaning op then parts_of op else parts_of 0
 
--- A ligature between two symbols covers what the deleted ones covered, and nothing, at their meeting
--- place, where none is deleted. What the two cover adjoins.
+-- a symbol that is deleted, unless it is kept, before others
+abbrev pub dropped : Bool → Symbol → List Symbol → List Symbol
+dropped true symbol others = others
+dropped false symbol others = symbol ∷ others
+
+-- where the last of some symbols ends
+abbrev pub last_end : ℕ → List Symbol → ℕ
+last_end end [] = end
+last_end end (symbol ∷ symbols) = last_end symbol.to symbols
+
+-- the union of the intervals of adjoining symbols, and nothing, at a place, where there are none
+abbrev pub union_at : ℕ → List Symbol → ℕ × ℕ
+union_at place [] = (place, place)
+union_at place (symbol ∷ symbols) = (symbol.from, last_end symbol.to symbols)
+
+-- A ligature between two symbols covers the union of what the deleted ones cover. Where none is
+-- deleted it covers nothing, at the place where the two meet.
 abbrev pub cover : Bool → Bool → Symbol → Symbol → ℕ × ℕ
-cover false false current follower = (current.from, follower.to)
-cover false true current follower = (current.from, current.to)
-cover true false current follower = (follower.from, follower.to)
-cover true true current follower = (current.to, current.to)
+cover keeps_current keeps_next current follower =
+    union_at current.to (dropped keeps_current current (dropped keeps_next follower []))
 
 abbrev pub ligature_between : Operation → ℕ → Symbol → Symbol → Symbol
 ligature_between op code current follower =

@@ -1,3 +1,5 @@
+//! Why a run has no glyphs.
+
 ghost use Rattle.std.specs.Prelude.{◌≡◌};
 ghost use Rattle.lig_kern.specs.declared.fault.LigFault.TheVariants.{NoMemory};
 

@@ -1,3 +1,5 @@
+//! The glyphs of a run, each with the codes that it stands for.
+
 /// What a run of characters comes to be in a font.
 #[derive(Clone, Copy, Debug, PartialEq, Eq)]
 pub enum Glyph {

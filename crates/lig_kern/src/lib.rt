@@ -1,16 +1,17 @@
 //! Runs a font's ligature and kern programs over a list of codes.
 //!
 //! The rules are those of TeX: The Program, part 46 (sections 1029 to 1040), and of the TFM
-//! description, "lig_kern": a run is a list of symbols and a cursor, and the program of the symbol at
-//! the cursor may put a kern before the next symbol, or a ligature in place of one of the two, of both
-//! or of none.
+//! description, "lig_kern": a run is a list of symbols and a cursor, and the program of the symbol
+//! at the cursor may put a kern before the next symbol, or a ligature in place of one of the two,
+//! of both or of none.
 //!
-//! [`run`] gives exactly the glyphs that the rules lead to. It refuses a missing character first, and
-//! programs that don't come to an end within a bound.
+//! [`run`] gives exactly the glyphs that the rules lead to. It refuses a missing character first,
+//! and programs that don't come to an end within a bound.
 #![tactic(auto)]
 
 mod fault;
 mod glyph;
+mod laws;
 mod operation;
 mod programs;
 mod rewriting;
@@ -20,7 +21,5 @@ mod symbols;
 
 pub use fault::LigFault;
 pub use glyph::Glyph;
+pub use laws::{ligatures_cover_what_they_replace, one_run, runs_are_lawful};
 pub use running::run;
-
-#[cfg(test)]
-mod tests;

@@ -1,3 +1,6 @@
+//! What a ligature word does: the eight operations that have a meaning (TFM description,
+//! "lig_kern").
+
 ghost use Rattle.std.specs.Prelude.{◌≡◌};
 ghost use Rattle.lig_kern.specs.Rewriting.{operation_of};
 

@@ -1,3 +1,6 @@
+//! The programs of a font: where that of a symbol starts, and which of its words acts before a code
+//! (TFM description, "lig_kern"; TeX: The Program, section 1039).
+
 ghost use Rattle.std.specs.Prelude.{◌≡◌, ◌<◌, ◌≤◌, length};
 ghost use Rattle.lig_kern.specs.Programs.{entry, character_program, program_of, acts_before, walk, acting_word};
 ghost use Rattle.lig_kern.specs.Rewriting.{kern_of};

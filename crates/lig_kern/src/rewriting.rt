@@ -1,3 +1,7 @@
+//! One step of a run: the cursor moves on, or a word puts a kern or a ligature (TFM description,
+//! "lig_kern"; TeX: The Program, section 1040). The glyphs that are done and the symbols ahead are
+//! the list of the definition, cut at the cursor.
+
 ghost use Rattle.std.specs.Prelude.{◌≡◌, ◌≤◌, [], ◌∷◌, ◌++◌, take, drop, Some, IfOk, OnOk};
 ghost use Rattle.lig_kern.specs.Rewriting.{ligature_between, kept, move_at, puts_kern, puts_ligature, move_by};
 ghost use Rattle.lig_kern.specs.Symbols.{glyphs_of};
@@ -84,7 +88,8 @@ impl Rewriting {
 
     /// Puts a kern after the current symbol and moves the cursor over both.
     fn put_kern(&mut self, fix: i32, current: Symbol) -> Result<(), NoMemory>
-        ensures done { OnOk result (self.new.done ≡ self.old.done ++ glyphs_of (puts_kern fix current self.old.ahead).passed) }
+        ensures done { OnOk result (self.new.done
+            ≡ self.old.done ++ glyphs_of (puts_kern fix current self.old.ahead).passed) }
         ensures ahead { self.new.ahead ≡ self.old.ahead }
     {
         self.pass(current)?;
@@ -105,9 +110,10 @@ impl Rewriting {
         current: Symbol,
         next: Symbol,
     ) -> Result<(), NoMemory>
-        ensures done { OnOk result (self.new.done
-            ≡ self.old.done ++ glyphs_of (puts_ligature op code current next self.old.ahead).passed) }
-        ensures ahead { OnOk result (self.new.ahead ≡ (puts_ligature op code current next self.old.ahead).ahead) }
+        ensures done { let move = puts_ligature op code current next self.old.ahead in
+            OnOk result (self.new.done ≡ self.old.done ++ glyphs_of move.passed) }
+        ensures ahead { let move = puts_ligature op code current next self.old.ahead in
+            OnOk result (self.new.ahead ≡ move.ahead) }
     {
         self.keep(op.keeps_next, next)?;
         self.keep(true, ligature_between(op, code, current, next))?;

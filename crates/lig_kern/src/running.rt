@@ -1,6 +1,11 @@
+//! A run from its codes to its glyphs: the list that it starts as, which is rewritten to its end or
+//! to the limit of words that act (TFM description, "lig_kern"; TeX: The Program, sections 1032 to
+//! 1040).
+
 ghost use Rattle.std.specs.Prelude.{◌≡◌, ℕ, ◌^◌, ◌<◌, ◌⊎◌, [], length, List, Ok, Err, MatchOption, IfOk, OnOk};
 ghost use Rattle.lig_kern.specs.declared.glyph.Glyph.{Glyph};
-ghost use Rattle.lig_kern.specs.Covering.{Cuts, KernsApart, characters};
+ghost use Rattle.lig_kern.specs.Covering.{Lawful, characters};
+ghost use Rattle.lig_kern.specs.Outcome.{outcome};
 ghost use Rattle.lig_kern.specs.Running.{left_symbols, right_symbols, code_symbols, start_of, AllExist, IsFirstMissing, IsRun, PassesLimit, Answers, ComesTo};
 
 use crate::fault::LigFault;
@@ -44,8 +49,8 @@ fn push_left(symbols: &mut Stack, tfm: &Tfm, left: bool) -> Result<(), NoMemory>
     Ok(())
 }
 
-/// Puts the right boundary after `end` codes before a list, where it is asked for and the font has a
-/// character for it.
+/// Puts the right boundary after `end` codes before a list, where it is asked for and the font has
+/// a character for it.
 fn push_right(symbols: &mut Stack, tfm: &Tfm, right: bool, end: u32) -> Result<(), NoMemory>
     ensures { OnOk result (symbols.new ≡ right_symbols right tfm.now.right end symbols.old) }
 {
@@ -92,7 +97,7 @@ fn start_of(
     requires { length codes.now < 2 ^ 20 }
     ensures { IfOk result (λ symbols. symbols ≡ start_of tfm.now codes.now left right) }
 {
-    let mut symbols = Stack::new(alloc);
+    let mut symbols = Stack::with_room(alloc, codes.len() + 2)?;
     push_right(&mut symbols, tfm, right, codes.len() as u32)?;
     push_codes(&mut symbols, codes)?;
     push_left(&mut symbols, tfm, left)?;
@@ -121,8 +126,8 @@ fn rewrite(alloc: Global, tfm: &Tfm, start: Stack, limit: usize) -> Result<Items
 /// The glyphs of a run of fewer than 2^20 codes, between the boundaries that are asked for and that
 /// the font has.
 ///
-/// Refused is a code for which the font has no character, the first such one and before all else, and
-/// a run on which more than 256 (n + 2) ligature words would act.
+/// Refused is a code for which the font has no character, the first such one and before all else,
+/// and a run on which more than 256 (n + 2) ligature words would act.
 pub fn run(
     alloc: Global,
     tfm: &Tfm,
@@ -140,10 +145,12 @@ pub fn run(
         → (result ≡ Ok glyphs) ⊎ (result ≡ Err LigFault.NoMemory) }
     ensures too_many { PassesLimit tfm.now codes.now left right
         → (result ≡ Err LigFault.TooManySteps) ⊎ (result ≡ Err LigFault.NoMemory) }
+    // The same as a function that computes.
+    ensures outcome { (result ≡ outcome tfm.now codes.now left right)
+        ⊎ (result ≡ Err LigFault.NoMemory) }
 
     // What holds of the glyphs of each run.
-    ensures cuts { IfOk result (Cuts 0 (length codes.now)) }
-    ensures kerns { IfOk result KernsApart }
+    ensures lawful { IfOk result (Lawful tfm.now codes.now) }
     ensures plain { length tfm.now.ligs ≡ 0 → AllExist tfm.now.chars codes.now
         → (result ≡ Ok (characters 0 codes.now)) ⊎ (result ≡ Err LigFault.NoMemory) }
 {

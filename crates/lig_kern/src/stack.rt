@@ -1,10 +1,13 @@
-ghost use Rattle.std.specs.Prelude.{◌≡◌, [], ◌∷◌, MatchOption, OnOk};
+//! The symbols from the cursor on, as a stack.
+
+ghost use Rattle.std.specs.Prelude.{◌≡◌, [], ◌∷◌, MatchOption, IfOk, OnOk};
 
 use crate::symbols::Symbol;
-use std::alloc::{AllocFailed, Global};
+use std::alloc::{AllocError, AllocFailed, Global};
 use std::marker::Model;
 
-/// The symbols from the cursor on, the current one first: a `Vec` whose last element is the current.
+/// The symbols from the cursor on, the current one first: a `Vec` whose last element is the
+/// current.
 #[derive(Drop)]
 pub struct Stack {
     symbols: Vec<Symbol>,
@@ -20,13 +23,12 @@ impl Model for Stack {
 }
 
 impl Stack {
-    /// No symbols.
-    pub fn new(alloc: Global) -> Stack
-        ensures { result ≡ [] }
+    /// No symbols, with room for so many.
+    pub fn with_room(alloc: Global, room: usize) -> Result<Stack, AllocError>
+        ensures { IfOk result (λ symbols. symbols ≡ []) }
     {
-        Stack {
-            symbols: Vec::new(alloc),
-        }
+        let symbols = Vec::with_capacity(alloc, room)?;
+        Ok(Stack { symbols })
     }
 
     /// Puts a symbol before the others.

@@ -1,3 +1,6 @@
+//! The symbols of a run: characters, ligatures, kerns and boundaries, each with the codes that it
+//! covers.
+
 ghost use Rattle.std.specs.Prelude.{◌≡◌, Some, None};
 ghost use Rattle.lig_kern.specs.Symbols.{code_of, glyph_of};
 

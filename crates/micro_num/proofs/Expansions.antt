@@ -1,12 +1,18 @@
 -- How widths grow with a font's expansion.
-use Rattle.std.proofs.Common.{◌≡◌, ℕ, zero, suc, ◌+◌, ◌*◌, ◌/◌, ◌<◌, ◌≤◌, ◌^◌, refl, ap, sym, arith, ◌∙◌, ℤ, pos, negsuc, neg_ℤ, ◌*ℤ◌, ◌+ℤ◌, ◌≤ℤ◌, ◌<ℤ◌}
+--     expanded-fits             a width that fits at the greatest step fits at every step down to -1000
+--     expanded-none             a font that isn't expanded has its own widths
+--     thousandths_of-within     at most 1000 thousandths of a number are no larger than it
+--     width_at-small            a width at a step is within ±2^31 sp
+use Rattle.std.proofs.Common.{◌≡◌, ℕ, zero, suc, ◌+◌, ◌*◌, ◌/◌, ◌<◌, ◌≤◌, ◌^◌, refl, ap, arith, ◌∙◌, ℤ, pos, negsuc, neg_ℤ, ◌+ℤ◌, ◌≤ℤ◌, ◌<ℤ◌}
 use Rattle.std.specs.Prelude.{unsigned_abs}
-use Rattle.std.proofs.lemmas.Int.{ints}
+use Rattle.std.proofs.lemmas.Int.{ints, unsigned_abs-mul}
 use Rattle.std.proofs.lemmas.Nat.{mul-le}
 use Rattle.std.proofs.Math.Nat.{div-eq_of_lt}
 use Rattle.micro_num.specs.Rounding.{nearest, rounded}
-use Rattle.micro_num.specs.Scaling.{IsFixWord}
-use Rattle.micro_num.specs.Expansion.{thousandths_of, expanded}
+use Rattle.micro_num.specs.Scaling.{IsFixWord, IsFontSize}
+use Rattle.micro_num.proofs.Floors.{scaled-small}
+use Rattle.micro_num.proofs.Signs.{minus_abs}
+use Rattle.micro_num.specs.Expansion.{thousandths_of, expanded, width_at}
 
 -- a number that isn't positive over a positive one
 pub rounded-minus : (m d : ℕ) → 0 < d → rounded (neg_ℤ (pos m)) (pos d) ≡ neg_ℤ (pos (nearest m d))
@@ -33,7 +39,7 @@ thousandths_of-whole (negsuc a) =
     thousandths_of-negsuc a 1000 ∙ ap (λ n. neg_ℤ (pos n)) whole
 
 -- more thousandths are a number that is at least as large
-nearest_grows : (a k l : ℕ) → k ≤ l → nearest (a * k) 1000 ≤ nearest (a * l) 1000
+pub nearest_grows : (a k l : ℕ) → k ≤ l → nearest (a * k) 1000 ≤ nearest (a * l) 1000
 nearest_grows a k l more = let product : a * k ≤ a * l = mul-le a k a l (omega arith) more in omega arith
 
 -- if some thousandths of a fix_word are one, then fewer are one too
@@ -67,3 +73,21 @@ expanded-fits w step limit least below fits =
 pub expanded-none : (w : ℤ) → expanded w (pos 0) ≡ w
 unfolding expanded
 expanded-none w = thousandths_of-whole w
+
+-- the rounded thousandths of a number are those of its magnitude
+abs_of_rounded : (m : ℤ) → unsigned_abs (rounded m (pos 1000)) ≡ nearest (unsigned_abs m) 1000
+abs_of_rounded (pos m) = refl
+abs_of_rounded (negsuc m) = minus_abs (nearest (suc m) 1000)
+
+-- at most a thousand thousandths of a number are no larger than it
+pub thousandths_of-within : (n k : ℤ) → unsigned_abs k ≤ 1000 → unsigned_abs (thousandths_of n k) ≤ unsigned_abs n
+unfolding thousandths_of
+thousandths_of-within n k few =
+    let grows = nearest_grows (unsigned_abs n) (unsigned_abs k) 1000 few in
+    let whole : nearest (unsigned_abs n * 1000) 1000 ≡ unsigned_abs n = omega arith in
+    rw (abs_of_rounded, unsigned_abs-mul) (omega (arith, grows, whole))
+
+-- a font's own widths, and those at a step, are within ±2^31 sp at a size of a font
+pub width_at-small : (w step z : ℤ) → IsFixWord (expanded w step) → IsFontSize z → unsigned_abs (width_at w step z) ≤ 2147483648
+unfolding width_at
+width_at-small w step z fits size = scaled-small (expanded w step) z fits size

@@ -1,4 +1,6 @@
-pub mod Floors
-pub mod Signs
+pub mod Badnesses
 pub mod Expansions
-pub mod Parameters
+pub mod Floors
+pub mod Halvings
+pub mod Shapes
+pub mod Signs

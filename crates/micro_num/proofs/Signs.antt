@@ -10,7 +10,7 @@ use Rattle.std.proofs.lemmas.Int.{ints, to_z-of_z, to_z_pos, fits_signed_from_ab
 use Rattle.std.proofs.lemmas.Nat.{mul-le}
 use Rattle.micro_num.specs.Rounding.{nearest, rounded, truncated}
 
-minus_abs : (q : ℕ) → unsigned_abs (neg_ℤ (pos q)) ≡ q
+pub minus_abs : (q : ℕ) → unsigned_abs (neg_ℤ (pos q)) ≡ q
 minus_abs zero = refl
 minus_abs (suc q) = refl
 

@@ -1,7 +1,9 @@
 pub mod Badness
 pub mod Decimals
 pub mod Expansion
+pub mod LineClass
 pub mod Plain
 pub mod Rounding
 pub mod Scaling
+pub mod Shape
 pub mod Units

@@ -1,8 +1,11 @@
--- The values that plain TeX gives the parameters of a paragraph, in sp where they are lengths.
-use Rattle.std.specs.Prelude.{ℕ, ◌*◌, ℤ, pos}
+-- The values that plain TeX gives the parameters of a paragraph, in sp where they are lengths, and the codes of
+-- its letters (The TeXbook, appendix B; TeX: The Program, sections 230 and 232).
+use Rattle.std.specs.Prelude.{ℕ, ◌+◌, ◌*◌, ℤ, pos, Bool, nat_le, ◌&&◌, map, if◌then◌else◌}
+use Rattle.std.specs.List.{range_with_len}
 use Rattle.std.proofs.Common.{lit≤}
 use Rattle.micro_num.specs.declared.glue.Glue.{Glue}
 use Rattle.micro_num.specs.declared.params.Params.{Params}
+use Rattle.micro_num.specs.declared.tables.Tables.{Tables}
 
 -- so many points, in sp
 abbrev pub points : ℕ → ℤ
@@ -35,6 +38,9 @@ plain_params = record {
   parindent = points 20;
   lineskiplimit = pos 0;
   emergencystretch = pos 0;
+  looseness = pos 0;
+  hangafter = pos 1;
+  hangindent = pos 0;
   baselineskip = rigid (points 12);
   lineskip = rigid (points 1);
   parfillskip = fil;
@@ -43,3 +49,22 @@ plain_params = record {
   spaceskip = rigid (pos 0);
   xspaceskip = rigid (pos 0);
 }
+
+-- a code is that of a letter A to Z, or a to z
+abbrev pub is_upper : ℕ → Bool
+is_upper code = nat_le 65 code && nat_le code 90
+
+abbrev pub is_lower : ℕ → Bool
+is_lower code = nat_le 97 code && nat_le code 122
+
+-- a capital has the space factor 999, all else 1000
+abbrev pub plain_factor : ℕ → ℕ
+plain_factor code = if is_upper code then 999 else 1000
+
+-- the letters A to Z and a to z have a lower case
+abbrev pub plain_lower : ℕ → ℕ
+plain_lower code = if is_upper code then code + 32 else (if is_lower code then code else 0)
+
+-- the tables over the 256 codes
+abbrev pub plain_tables : Tables
+plain_tables = record { sfcode = map plain_factor (range_with_len 0 256); lccode = map plain_lower (range_with_len 0 256) }

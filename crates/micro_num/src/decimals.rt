@@ -1,3 +1,4 @@
+//! Decimal fractions in units of 2^-16 (TeX: The Program, section 102).
 ghost use Rattle.std.specs.Prelude.{◌≡◌, ◌<◌, ◌≤◌, length, All};
 ghost use Rattle.micro_num.specs.Decimals.{IsDigit, decimal_fraction, halves_of};
 

@@ -1,3 +1,4 @@
+//! Stretchable space (TeX: The Program, sections 149 and 150).
 ghost use Rattle.std.specs.Prelude.{◌≤◌};
 
 use crate::Sp;

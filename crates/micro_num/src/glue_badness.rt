@@ -1,13 +1,15 @@
-ghost use Rattle.std.specs.Prelude.{◌≡◌, ◌<◌, ◌≤ℤ◌, pos};
+//! How bad it is to stretch or shrink glue (TeX: The Program, section 108).
+ghost use Rattle.std.specs.Prelude.{◌≡◌, ◌<◌, ◌≤◌, ◌≤ℤ◌, pos};
 ghost use Rattle.micro_num.specs.Badness.{badness_of, badness_of_ratio, stretch_ratio};
 
-/// The badness of a line: about 100 times the cube of `t / s`, where t sp, which are at least 0, are
-/// to be made up for by glue that stretches or shrinks by s sp. 10000 stands for whatever is worse
-/// than that, and for a line with nothing to stretch or shrink (TeX: The Program, section 108).
+/// The badness of a line: about 100 times the cube of `t / s`, where t sp, which are at least 0,
+/// are to be made up for by glue that stretches or shrinks by s sp. 10000 stands for whatever is
+/// worse than that, and for a line with nothing to stretch or shrink.
 #[tactic(auto, unfolding(crate::specs::Badness::badness_of))]
 pub fn badness(t: i64, s: i64) -> u16
     requires { pos 0 ≤ℤ t }
-    ensures { result ≡ badness_of t s }
+    ensures exact { result ≡ badness_of t s }
+    ensures capped { result ≤ 10000 }
 {
     if t == 0 {
         0
@@ -34,7 +36,8 @@ fn ratio(t: u64, s: u64) -> u64
 
 /// The badness of a ratio.
 fn cubed(r: u64) -> u16
-    ensures { result ≡ badness_of_ratio r }
+    ensures exact { result ≡ badness_of_ratio r }
+    ensures capped { result ≤ 10000 }
 {
     if r > 1290 {
         10000

@@ -1,3 +1,4 @@
+//! Lengths in units of the job language, in scaled points (TeX: The Program, section 458).
 ghost use Rattle.std.specs.Prelude.{◌≡◌, ◌<◌, ◌≤◌, ◌^◌, pos};
 ghost use Rattle.std.specs.Option.{SomeIff};
 ghost use Rattle.micro_num.specs.Units.{unit_size, size_in_points as points_size};
@@ -10,7 +11,8 @@ use crate::{Sp, Unit};
 pub fn unit_to_sp(whole: u32, fraction: u32, unit: Unit) -> Option<Sp>
     requires whole { whole < 2 ^ 31 }
     requires fraction { fraction ≤ 65536 }
-    ensures { SomeIff result (unit_size whole fraction unit < 2 ^ 30) (pos (unit_size whole fraction unit)) }
+    ensures { let size = unit_size whole fraction unit in
+        SomeIff result (size < 2 ^ 30) (pos size) }
 {
     let size = size_of(whole, fraction, unit);
     if size < 1 << 30 {

@@ -1,3 +1,4 @@
+//! Want of memory, which every call that allocates may answer.
 use std::alloc::{AllocError, AllocFailed};
 use std::error::Error;
 use std::fmt;

@@ -1,3 +1,5 @@
+//! The parameters of a paragraph, and the values that they have in plain TeX
+//! (TeX: The Program, sections 236 and 247; The TeXbook, appendix B).
 ghost use Rattle.std.specs.Prelude.{◌≡◌};
 ghost use Rattle.micro_num.specs.Plain.{plain_params, rigid as rigid_glue, fil as fil_glue};
 
@@ -26,6 +28,9 @@ pub struct Params {
     pub parindent: Sp,
     pub lineskiplimit: Sp,
     pub emergencystretch: Sp,
+    pub looseness: i32,
+    pub hangafter: i32,
+    pub hangindent: Sp,
     pub baselineskip: Glue,
     pub lineskip: Glue,
     pub parfillskip: Glue,
@@ -36,7 +41,8 @@ pub struct Params {
 }
 
 impl Params {
-    /// What holds before a job assigns anything: the values of plain TeX, where it has the parameter.
+    /// What holds before a job assigns anything: the values of plain TeX, where it has the
+    /// parameter.
     #[tactic(auto, unfolding(crate::specs::Plain::plain_params))]
     pub fn plain() -> Params
         ensures { result ≡ plain_params }
@@ -59,6 +65,9 @@ impl Params {
             parindent: 20 * POINT,
             lineskiplimit: 0,
             emergencystretch: 0,
+            looseness: 0,
+            hangafter: 1,
+            hangindent: 0,
             baselineskip: rigid(12 * POINT),
             lineskip: rigid(POINT),
             parfillskip: fil(),

@@ -1,13 +1,11 @@
-use crate::{Glue, Sp};
-use items::Items;
+//! The parts of a paragraph's text, as a job spells them.
+use crate::{Disc, Glue, Sp};
 
 /// One part of a paragraph's text, before fonts, ligatures and spaces are worked out.
 #[derive(Drop)]
 pub enum Part {
     /// A character of the current font.
-    Char {
-        code: u8,
-    },
+    Char { code: u8 },
     /// A space between words, which the space factor changes.
     Space,
     /// A space that the space factor doesn't change.
@@ -15,28 +13,15 @@ pub enum Part {
     /// A space at which no line ends.
     Tie,
     /// A kern of the author's.
-    Kern {
-        width: Sp,
-    },
+    Kern { width: Sp },
     /// A glue of the author's.
-    Skip {
-        glue: Glue,
-    },
+    Skip { glue: Glue },
     /// A penalty of the author's.
-    Penalty {
-        value: i32,
-    },
+    Penalty { value: i32 },
     /// A place at which the word may be hyphenated.
     Hyphen,
-    /// A discretionary: the codes before a line's end and after it where the line ends here, and the
-    /// codes where it doesn't.
-    Disc {
-        pre: Items<u8>,
-        post: Items<u8>,
-        whole: Items<u8>,
-    },
+    /// A discretionary, and the codes of its three lists.
+    Disc { lists: Disc<u8> },
     /// From here on the current font is this one, counted from 0 in the order of declaration.
-    Font {
-        font: u32,
-    },
+    Font { font: u32 },
 }

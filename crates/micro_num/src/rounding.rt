@@ -1,3 +1,5 @@
+//! Quotients of whole numbers, rounded and cut. Each is worked out on magnitudes, and gets its sign
+//! at the end (TeX: The Program, section 107).
 ghost use Rattle.std.specs.Prelude.{◌≡◌, ◌≢◌, ◌≤◌, ◌<◌, ◌^◌, ◌*◌, ◌*ℤ◌, ◌≤ℤ◌, pos, unsigned_abs};
 ghost use Rattle.micro_num.specs.Expansion.{thousandths_of};
 ghost use Rattle.micro_num.specs.Rounding.{rounded, truncated, nearest as nearest_of};
@@ -37,12 +39,13 @@ pub fn round_over(n: i128, d: i128) -> i128
 }
 
 /// `n * k / 1000` rounded, a half away from zero: so many thousandths of a length. The length is
-/// within ±2^33, and k within ±2000.
+/// within ±2^33, and k within ±2^32.
 #[tactic(auto, unfolding(crate::specs::Expansion::thousandths_of))]
 pub fn thousandths(n: i64, k: i64) -> i64
     requires n_size { unsigned_abs n ≤ 2 ^ 33 }
-    requires k_size { unsigned_abs k ≤ 2000 }
-    ensures { result ≡ thousandths_of n k }
+    requires k_size { unsigned_abs k ≤ 2 ^ 32 }
+    ensures exact { result ≡ thousandths_of n k }
+    ensures within { unsigned_abs k ≤ 1000 → unsigned_abs result ≤ unsigned_abs n }
 {
     let magnitude = thousandths_up(n.unsigned_abs(), k.unsigned_abs());
     if (n < 0) == (k < 0) {
@@ -55,11 +58,12 @@ pub fn thousandths(n: i64, k: i64) -> i64
 /// `n * k / 1000` rounded, a half up.
 fn thousandths_up(n: u64, k: u64) -> u64
     requires n_size { n ≤ 2 ^ 33 }
-    requires k_size { k ≤ 2000 }
+    requires k_size { k ≤ 2 ^ 32 }
     ensures exact { result ≡ nearest_of (n * k) 1000 }
-    ensures small { result ≤ 2 ^ 35 }
+    ensures small { result ≤ 2 ^ 56 }
+    ensures within { k ≤ 1000 → result ≤ n }
 {
-    (n * k + 500) / 1000
+    ((n as u128 * k as u128 + 500) / 1000) as u64
 }
 
 /// `n / d` rounded to the nearest whole number, a half up.

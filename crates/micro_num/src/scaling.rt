@@ -1,4 +1,5 @@
-ghost use Rattle.std.specs.Prelude.{◌≡◌, ◌<◌, ◌-◌, ◌^◌, ◌≤◌};
+//! A fix_word at a font's size, as one product (TeX: The Program, sections 568, 571 and 572).
+ghost use Rattle.std.specs.Prelude.{◌≡◌, ◌<◌, ◌-◌, ◌/◌, ◌^◌, ◌≤◌};
 ghost use Rattle.micro_num.specs.Scaling.{IsFixWord, IsFontSize, halvings, kept_size, scaled};
 
 use crate::Sp;
@@ -21,7 +22,6 @@ pub fn scale(w: i32, z: Sp) -> Sp
 }
 
 /// A size with the bits cleared that TeX's halving drops.
-#[tactic(auto, unfolding(crate::specs::Scaling::halvings))]
 fn kept(z: u32) -> u32
     requires { z < 2 ^ 27 }
     ensures exact { result ≡ kept_size z }
@@ -32,11 +32,11 @@ fn kept(z: u32) -> u32
 }
 
 /// How often a size is halved until it is below 2^23.
-#[tactic(auto, unfolding(crate::specs::Scaling::halvings))]
 fn halved_times(z: u32) -> u32
     requires { z < 2 ^ 27 }
     ensures exact { result ≡ halvings z }
     ensures few { result ≤ 4 }
+    ensures enough { z / 2 ^ result < 2 ^ 23 }
 {
     if z < 1 << 23 {
         0

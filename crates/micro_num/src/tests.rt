@@ -1,4 +1,10 @@
+//! Values at the edges of the rules, worked out by hand.
+ghost use Rattle.std.specs.Prelude.{◌<◌, ◌≤◌, ◌^◌, length};
+
 use super::*;
+use items::Items;
+use std::mem::size_of;
+use std::test::Fail;
 
 #[test]
 fn badness_at_the_edges_of_its_formula(rt: HostRuntime) {
@@ -100,4 +106,125 @@ fn the_plain_parameters(rt: HostRuntime) {
     assert_eq!(rt; plain.tolerance, 200);
     assert_eq!(rt; plain.baselineskip.width, 786432);
     assert_eq!(rt; plain.parfillskip.order, 1);
+}
+
+/// The parameters of lines of 35pt that hang so.
+fn hanging(hangafter: i32, hangindent: Sp) -> Params {
+    let mut params = Params::plain();
+    params.hsize = 2293760;
+    params.hangafter = hangafter;
+    params.hangindent = hangindent;
+    params
+}
+
+/// The width, the indent and the group of a line.
+fn row(params: &Params, shape: &[ShapeLine], number: u32) -> (Sp, Sp, u32)
+    requires number { 1 ≤ number }
+    requires shape { length shape.now < 2 ^ 32 }
+{
+    if params.hsize.unsigned_abs() >= 1 << 30 {
+        return (0, 0, 0);
+    }
+    if params.hangindent.unsigned_abs() >= 1 << 30 {
+        return (0, 0, 0);
+    }
+    let line = shape_line(params, shape, number);
+    (line.width, line.indent, line_group(params, shape, number))
+}
+
+/// The first four lines of a paragraph of such lines.
+fn lines(hangafter: i32, hangindent: Sp, shape: &[ShapeLine]) -> [(Sp, Sp, u32); 4]
+    requires shape { length shape.now < 2 ^ 32 }
+{
+    let params = hanging(hangafter, hangindent);
+    [
+        row(&params, shape, 1),
+        row(&params, shape, 2),
+        row(&params, shape, 3),
+        row(&params, shape, 4),
+    ]
+}
+
+#[test]
+fn lines_hang_by_the_signs_of_their_settings(rt: HostRuntime) {
+    let wide = 2293760;
+    let narrow = 1474560;
+    let right = 819200;
+    let first = (wide, 0, 1);
+    let hung = (narrow, right, 2);
+    assert_eq!(rt; lines(1, right, &[]), [first, hung, hung, hung]);
+    let hung = (narrow, right, 1);
+    assert_eq!(rt; lines(0, right, &[]), [hung, hung, hung, hung]);
+    let full = (wide, 0, 2);
+    assert_eq!(rt; lines(-1, right, &[]), [hung, full, full, full]);
+    let left = [(narrow, 0, 1), (narrow, 0, 2), (wide, 0, 3), (wide, 0, 3)];
+    assert_eq!(rt; lines(-2, -right, &[]), left);
+    assert_eq!(rt; lines(-2147483648, 0, &[]), [first, first, first, first]);
+}
+
+#[test]
+fn a_shape_repeats_its_last_line(rt: HostRuntime) {
+    let shape = [
+        ShapeLine {
+            indent: 0,
+            width: 1474560,
+        },
+        ShapeLine {
+            indent: 327680,
+            width: 2293760,
+        },
+    ];
+    let last = (2293760, 327680, 2);
+    assert_eq!(rt;
+        lines(1, 819200, &shape),
+        [(1474560, 0, 1), last, last, last]
+    );
+    let mut params = hanging(-2147483648, 1);
+    assert_eq!(rt; last_special_line(&params, &shape), 1);
+    assert_eq!(rt; last_special_line(&params, &[]), 2147483648);
+    assert_eq!(rt; open_ended_group(&params, &[]), Some(2147483649));
+    params.looseness = -1;
+    assert_eq!(rt; line_group(&params, &shape, 4), 4);
+    assert_eq!(rt; open_ended_group(&params, &shape), None);
+}
+
+#[test]
+fn a_part_takes_at_most_32_bytes(rt: HostRuntime) -> Result<(), Fail> {
+    assert!(rt; size_of::<PartAt>() <= 32);
+    let disc = Disc::new(
+        rt.alloc(),
+        Items::from_slice(rt.alloc(), &[1])?,
+        Items::new(rt.alloc()),
+        Items::from_slice(rt.alloc(), &[2, 3])?,
+    )?;
+    assert_eq!(rt; disc.pre(), [1].as_slice());
+    assert_eq!(rt; disc.post().len(), 0);
+    assert_eq!(rt; disc.whole(), [2, 3].as_slice());
+    Ok(())
+}
+
+#[test]
+fn classes_change_past_12_and_99(rt: HostRuntime) {
+    let cases = [
+        (0, DECENT, DECENT),
+        (12, DECENT, DECENT),
+        (13, LOOSE, TIGHT),
+        (99, LOOSE, TIGHT),
+        (100, VERY_LOOSE, TIGHT),
+    ];
+    for (badness, stretched, shrunk) in cases {
+        assert_eq!(rt; stretched_class(badness), stretched, "at {badness}");
+        assert_eq!(rt; shrunk_class(badness), shrunk, "at {badness}");
+    }
+}
+
+#[test]
+fn the_plain_tables(rt: HostRuntime) {
+    let plain = Tables::plain();
+    assert_eq!(rt; plain.sfcode[64], 1000);
+    assert_eq!(rt; plain.sfcode[65], 999);
+    assert_eq!(rt; plain.sfcode[97], 1000);
+    assert_eq!(rt; plain.lccode[90], 122);
+    assert_eq!(rt; plain.lccode[97], 97);
+    assert_eq!(rt; plain.lccode[48], 0);
 }

@@ -1,3 +1,4 @@
+//! The units of length (TeX: The Program, section 458).
 /// A unit of length (TeX: The Program, section 458).
 #[derive(Clone, Copy, Debug, PartialEq, Eq)]
 pub enum Unit {

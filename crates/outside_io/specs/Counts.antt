@@ -1,4 +1,4 @@
--- How a count moves. A count is one machine word, so it stands still at 2^64 - 1.
+-- How a count moves, in words of this project's own. A count is one machine word, so it stands still at 2^64 - 1.
 use Rattle.std.specs.Prelude.{◌≡◌, ℕ, ◌+◌, ◌-◌, ◌^◌, ◌≤◌, min}
 
 -- it rose: it is greater than before, or stands at its end

@@ -1,4 +1,4 @@
--- What a shelf may answer to a read, and what each refusal means.
+-- What a shelf may answer to a read, and what each refusal means, in words of this project's own.
 use Rattle.std.specs.Prelude.{◌≡◌, ℕ, ◌≤◌, ◌<◌, ◌≢◌, List, length, Contains, AllPairs, Result, Ok, Err, ⊤}
 use Rattle.outside_io.specs.declared.faults.ShelfFault.{ShelfFault}
 use Rattle.outside_io.specs.declared.faults.ShelfFault.TheVariants.{Absent, TooLong, Failed, NoMemory}

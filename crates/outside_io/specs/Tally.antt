@@ -1,4 +1,4 @@
--- Which counts of a shelf an answer raises.
+-- Which counts of a shelf an answer raises, in words of this project's own.
 use Rattle.std.specs.Prelude.{◌≡◌, ℕ, Result, Err}
 use Rattle.outside_io.specs.Counts.{RisesBy}
 use Rattle.outside_io.specs.declared.faults.ShelfFault.{ShelfFault}

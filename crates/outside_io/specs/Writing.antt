@@ -1,4 +1,4 @@
--- What a failed write may leave.
+-- What a failed write may leave, in words of this project's own.
 use Rattle.std.specs.Prelude.{◌≡◌, ℕ, List, ◌++◌, Option}
 use Rattle.std.specs.Io.KnownBytes.{Appends}
 

@@ -1,3 +1,4 @@
+//! A count of what came to pass, which stands still at its end.
 ghost use Rattle.std.specs.Prelude.{◌≡◌, ◌^◌, ◌<◌};
 ghost use Rattle.outside_io.specs.Counts.{RisesBy};
 

@@ -1,3 +1,4 @@
+//! Why a file was not read, or bytes were not written.
 ghost use Rattle.std.specs.Prelude.{◌≡◌};
 ghost use Rattle.outside_io.specs.declared.faults.ShelfFault.TheVariants.{NoMemory};
 
@@ -10,7 +11,8 @@ use std::fmt;
 pub enum ShelfFault {
     /// No file has the name.
     Absent,
-    /// The file has more bytes than the limit: the count that was reached, which is above the limit.
+    /// The file has more bytes than the limit: the count that was reached, which is above the
+    /// limit.
     TooLong { count: u64 },
     /// Any other failure.
     Failed,

@@ -1,9 +1,13 @@
-ghost use Rattle.std.specs.Prelude.{◌≡◌, ◌≢◌, ◌<◌, ◌≤◌, ℕ, List, length, IfOk, None};
+//! A shelf of the system's files. The loop that reads one gives all bytes that its reader had left.
+ghost use Rattle.std.specs.Prelude.{◌≡◌, ◌≢◌, ◌<◌, ◌≤◌, ℕ, List, length, IfOk, IfErr, OnOk, Err};
+ghost use Rattle.std.specs.Prelude.{None};
 ghost use Rattle.std.specs.Io.KnownBytes.{Consumes, IsAtEnd};
+ghost use Rattle.std.specs.IoError.{error_kind};
 ghost use Rattle.std.specs.declared.io.ErrorKind.TheVariants.{NotFound};
 ghost use Rattle.outside_io.specs.declared.faults.ShelfFault.TheVariants.{Absent, Failed};
 ghost use Rattle.outside_io.specs.Counts.{Rose, RisesBy};
 ghost use Rattle.outside_io.specs.Reading.{OnAbsent, IfTooLong, OnFailed};
+ghost use Rattle.outside_io.specs.States.{shelf_state};
 ghost use Rattle.outside_io.specs.Tally.{IsZero, Tallied};
 
 use crate::faults::ShelfFault;
@@ -11,9 +15,9 @@ use crate::shelves::Shelf;
 use crate::tally::ShelfCounts;
 use items::Items;
 use std::alloc::Global;
-use std::fs;
 use std::io::{ErrorKind, Read};
 use std::rt::Files;
+use std::{fs, io};
 
 /// How many bytes one call of the system reads at most.
 const PIECE: usize = 16_384;
@@ -40,14 +44,19 @@ impl<'a, R: Files> FileShelf<'a, R> {
     }
 }
 
-/// The rest of a reader, of which there may be `limit` bytes at most. It stops once it has read more.
+/// The rest of a reader, of which there may be `limit` bytes at most. It stops once it has read
+/// more.
 fn read_within<F: Read>(alloc: Global, reader: &mut F, limit: u64) -> Result<Items<u8>, ShelfFault>
     ensures within { IfOk result (λ bytes. length bytes ≤ limit) }
     ensures excess { IfTooLong result (λ count. limit < count) }
     ensures present { OnAbsent result ⊥ }
     // The bytes are all that the reader had left, and a refusal counts what was read.
-    ensures whole { IfOk result (λ bytes. Consumes (F.remaining reader.old) (F.remaining reader.new) bytes × IsAtEnd (F.remaining reader.new)) }
-    ensures counted { IfTooLong result (λ count. (bytes : List ℕ) × Consumes (F.remaining reader.old) (F.remaining reader.new) bytes × (length bytes ≡ count)) }
+    ensures whole { IfOk result (λ bytes.
+        Consumes (F.remaining reader.old) (F.remaining reader.new) bytes
+        × IsAtEnd (F.remaining reader.new)) }
+    ensures counted { IfTooLong result (λ count. (bytes : List ℕ)
+        × Consumes (F.remaining reader.old) (F.remaining reader.new) bytes
+        × (length bytes ≡ count)) }
 {
     let mut piece = [0u8; PIECE];
     let mut bytes = Vec::new(alloc);
@@ -75,32 +84,27 @@ fn open_fault(kind: ErrorKind) -> ShelfFault
     }
 }
 
-/// The bytes of a file of the current folder.
-fn read_file<R: Files>(
-    rt: &R,
+/// The bytes of a file, by what came of opening it.
+fn read_opened<F: Read + Drop>(
     alloc: Global,
-    name: &str,
+    opened: io::Result<F>,
     limit: u64,
 ) -> Result<Items<u8>, ShelfFault>
     ensures within { IfOk result (λ bytes. length bytes ≤ limit) }
     ensures excess { IfTooLong result (λ count. limit < count) }
+    // A file that was opened is there, and an error in opening is told for what it is.
+    ensures present { OnOk opened (OnAbsent result ⊥) }
+    ensures absent { IfErr opened (λ error. error_kind error ≡ NotFound → result ≡ Err Absent) }
+    ensures failed { IfErr opened (λ error. error_kind error ≢ NotFound → result ≡ Err Failed) }
 {
-    match fs::open(rt, name) {
+    match opened {
         Ok(mut file) => read_within(alloc, &mut file, limit),
         Err(error) => Err(open_fault(error.kind())),
     }
 }
 
 impl<'a, R: Files> Shelf for FileShelf<'a, R> {
-    ghost files = { λ _. None };
-
-    ghost calls = { λ shelf. shelf.counts.calls.times };
-
-    ghost absences = { λ shelf. shelf.counts.absences.times };
-
-    ghost excesses = { λ shelf. shelf.counts.excesses.times };
-
-    ghost faults = { λ shelf. shelf.counts.faults.times };
+    ghost state = { λ shelf. shelf_state None shelf.counts };
 
     fn read(&mut self, alloc: Global, name: &str, limit: u64) -> Result<Items<u8>, ShelfFault>
         ensures called { RisesBy 1 self.old.counts.calls.times self.new.counts.calls.times }
@@ -118,18 +122,17 @@ impl<'a, R: Files> Shelf for FileShelf<'a, R> {
         ensures counts { Tallied result self.old.counts self.new.counts }
     {
         self.counts.calls.rise();
-        let answer = read_file(self.rt, alloc, name, limit);
+        let answer = read_opened(alloc, fs::open(self.rt, name), limit);
         self.counts.blame(&answer);
         answer
     }
 
     ghost names_differ = { λ _. tt };
 
-    ghost calls_fit = { λ shelf. shelf.counts.calls.fits };
-
-    ghost absences_fit = { λ shelf. shelf.counts.absences.fits };
-
-    ghost excesses_fit = { λ shelf. shelf.counts.excesses.fits };
-
-    ghost faults_fit = { λ shelf. shelf.counts.faults.fits };
+    ghost counts_fit = { λ shelf. record {
+      calls = shelf.counts.calls.fits;
+      absences = shelf.counts.absences.fits;
+      excesses = shelf.counts.excesses.fits;
+      faults = shelf.counts.faults.fits;
+    } };
 }

@@ -1,3 +1,4 @@
+//! Points of the work at which a worker may be held up.
 /// Where in its work a worker passes the gate.
 #[derive(Clone, Copy, Debug, PartialEq, Eq)]
 pub enum Point {
@@ -7,13 +8,14 @@ pub enum Point {
     Claimed,
     /// It has published a cell.
     Published,
-    /// It begins a paragraph.
+    /// It has set a paragraph.
     Paragraph,
 }
 
 /// What a worker passes at points of its work: a test holds it up there, and a program does not.
 ///
-/// A call returns, and nothing else is known of it. A call that crosses threads asks for `Sync` too.
+/// A call returns, and nothing else is known of it. A call that crosses threads asks for `Sync`
+/// too.
 pub trait Gate {
     /// The worker's number, the point, and the place: the cell's number at `Claimed` and
     /// `Published`, the paragraph's at `Paragraph`, else 0.

@@ -6,9 +6,9 @@
 //! can make a fault of the outside up. One that knows its bytes tells them, and then each answer is
 //! tied to them.
 //!
-//! [`MemShelf`] and [`MemSink`] stand in memory, tell their bytes, and fail exactly at the calls that
-//! they are told to. [`FileShelf`] and [`StdSink`] reach the system and tell nothing: what a file or
-//! a terminal really gives and takes is trusted.
+//! [`MemShelf`] and [`MemSink`] stand in memory, tell their bytes, and fail exactly at the calls
+//! that they are told to. [`FileShelf`] and [`StdSink`] reach the system and tell nothing: what a
+//! file or a terminal really gives and takes is trusted.
 #![tactic(auto)]
 
 mod counts;

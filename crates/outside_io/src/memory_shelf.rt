@@ -1,6 +1,10 @@
-ghost use Rattle.std.specs.Prelude.{◌≡◌, ◌<◌, ◌≤◌, ℕ, length, Contains, IfOk, MatchOption, Some, Err};
+//! A shelf in memory, whose failures are listed.
+ghost use Rattle.std.specs.Prelude.{◌≡◌, ◌<◌, ◌≤◌, ℕ, length, Contains, IfOk, MatchOption, Some};
+ghost use Rattle.std.specs.Prelude.{Err};
 ghost use Rattle.outside_io.specs.Counts.{Rose, RisesBy};
-ghost use Rattle.outside_io.specs.Reading.{NamesDiffer, HasFile, OnFailed, IfTooLong, OnAbsent, Answers, CopiesWithin};
+ghost use Rattle.outside_io.specs.Reading.{NamesDiffer, HasFile, OnFailed, IfTooLong, OnAbsent};
+ghost use Rattle.outside_io.specs.Reading.{Answers, CopiesWithin};
+ghost use Rattle.outside_io.specs.States.{shelf_state};
 ghost use Rattle.outside_io.specs.Tally.{IsZero, Tallied};
 ghost use Rattle.outside_io.specs.declared.faults.ShelfFault.TheVariants.{Failed};
 
@@ -20,8 +24,8 @@ pub struct MemShelf {
 }
 
 impl MemShelf {
-    /// A shelf of files, as names and bytes, with all counts at 0. Its calls are counted from 1, and
-    /// those that `failing` lists fail.
+    /// A shelf of files, as names and bytes, with all counts at 0. Its calls are counted from 1,
+    /// and those that `failing` lists fail.
     pub fn make(files: Items<(Items<u8>, Items<u8>)>, failing: Items<u64>) -> MemShelf
         requires { NamesDiffer files }
         ensures files { result.files ≡ files }
@@ -50,7 +54,8 @@ impl MemShelf {
 
     /// The answer of the call that was counted last.
     fn answer(&self, alloc: Global, name: &str, limit: u64) -> Result<Items<u8>, ShelfFault>
-        ensures listed { Contains self.now.failing self.now.counts.calls.times → result ≡ Err Failed }
+        ensures listed { Contains self.now.failing self.now.counts.calls.times
+            → result ≡ Err Failed }
         ensures unlisted { OnFailed result (Contains self.now.failing self.now.counts.calls.times) }
         ensures within { IfOk result (λ bytes. length bytes ≤ limit) }
         ensures whole { IfTooLong result (λ count. (bytes : _)
@@ -80,15 +85,7 @@ fn copy_within(alloc: Global, bytes: &Items<u8>, limit: u64) -> Result<Items<u8>
 }
 
 impl Shelf for MemShelf {
-    ghost files = { λ shelf. Some shelf.files };
-
-    ghost calls = { λ shelf. shelf.counts.calls.times };
-
-    ghost absences = { λ shelf. shelf.counts.absences.times };
-
-    ghost excesses = { λ shelf. shelf.counts.excesses.times };
-
-    ghost faults = { λ shelf. shelf.counts.faults.times };
+    ghost state = { λ shelf. shelf_state (Some shelf.files) shelf.counts };
 
     fn read(&mut self, alloc: Global, name: &str, limit: u64) -> Result<Items<u8>, ShelfFault>
         ensures called { RisesBy 1 self.old.counts.calls.times self.new.counts.calls.times }
@@ -106,7 +103,8 @@ impl Shelf for MemShelf {
         ensures same { self.new.files ≡ self.old.files }
 
         // Exactly the listed calls fail.
-        ensures listed { Contains self.old.failing self.new.counts.calls.times → result ≡ Err Failed }
+        ensures listed { Contains self.old.failing self.new.counts.calls.times
+            → result ≡ Err Failed }
         ensures unlisted { OnFailed result (Contains self.old.failing self.new.counts.calls.times) }
         ensures failing { self.new.failing ≡ self.old.failing }
 
@@ -125,11 +123,10 @@ impl Shelf for MemShelf {
 
     ghost names_differ = { λ shelf. shelf.names_differ };
 
-    ghost calls_fit = { λ shelf. shelf.counts.calls.fits };
-
-    ghost absences_fit = { λ shelf. shelf.counts.absences.fits };
-
-    ghost excesses_fit = { λ shelf. shelf.counts.excesses.fits };
-
-    ghost faults_fit = { λ shelf. shelf.counts.faults.fits };
+    ghost counts_fit = { λ shelf. record {
+      calls = shelf.counts.calls.fits;
+      absences = shelf.counts.absences.fits;
+      excesses = shelf.counts.excesses.fits;
+      faults = shelf.counts.faults.fits;
+    } };
 }

@@ -1,5 +1,8 @@
-ghost use Rattle.std.specs.Prelude.{◌≡◌, ◌+◌, ◌<◌, ◌≤◌, ◌⊎◌, ◌++◌, [], length, vec_len, vec_capacity, Contains, OnOk, OnErr, IsErr, Some};
+//! A sink in memory, with room of its own, whose failures are listed.
+ghost use Rattle.std.specs.Prelude.{◌≡◌, ◌+◌, ◌<◌, ◌≤◌, ◌⊎◌, ◌++◌, [], length, vec_len};
+ghost use Rattle.std.specs.Prelude.{vec_capacity, Contains, OnOk, OnErr, IsErr, Some};
 ghost use Rattle.outside_io.specs.Counts.{RisesBy};
+ghost use Rattle.outside_io.specs.States.{sink_state};
 
 use crate::counts::Count;
 use crate::faults::Failed;
@@ -24,8 +27,8 @@ pub struct MemSink {
 }
 
 impl MemSink {
-    /// An empty sink with no room and both counts at 0. Its calls are counted from 1, and those that
-    /// `failing` lists fail.
+    /// An empty sink with no room and both counts at 0. Its calls are counted from 1, and those
+    /// that `failing` lists fail.
     pub fn make(alloc: Global, failing: Items<u64>) -> MemSink
         ensures bytes { result.bytes.items ≡ [] }
         ensures room { result.room ≡ 0 }
@@ -68,11 +71,7 @@ impl MemSink {
 }
 
 impl Sink for MemSink {
-    ghost written = { λ sink. Some sink.bytes.items };
-
-    ghost calls = { λ sink. sink.calls.times };
-
-    ghost faults = { λ sink. sink.faults.times };
+    ghost state = { λ sink. sink_state (Some sink.bytes.items) sink.calls sink.faults };
 
     fn write(&mut self, bytes: &[u8]) -> Result<(), Failed>
         ensures called { RisesBy 1 self.old.calls.times self.new.calls.times }
@@ -81,7 +80,8 @@ impl Sink for MemSink {
         // A write fails exactly at the listed calls and past the room, and then takes nothing.
         ensures listed { Contains self.old.failing self.new.calls.times → IsErr result }
         ensures past_room { self.old.room < length bytes.now → IsErr result }
-        ensures cause { OnErr result (Contains self.old.failing self.new.calls.times ⊎ (self.old.room < length bytes.now)) }
+        ensures cause { OnErr result (Contains self.old.failing self.new.calls.times
+            ⊎ (self.old.room < length bytes.now)) }
         ensures failed { OnErr result (RisesBy 1 self.old.faults.times self.new.faults.times) }
         ensures nothing { OnErr result (self.new.bytes.items ≡ self.old.bytes.items) }
         ensures room_kept { OnErr result (self.new.room ≡ self.old.room) }
@@ -104,7 +104,5 @@ impl Sink for MemSink {
         self.bytes.extend_from_slice(bytes).map_err(|_error| Failed)
     }
 
-    ghost calls_fit = { λ sink. sink.calls.fits };
-
-    ghost faults_fit = { λ sink. sink.faults.fits };
+    ghost counts_fit = { λ sink. record { calls = sink.calls.fits; faults = sink.faults.fits } };
 }

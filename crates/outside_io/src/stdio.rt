@@ -1,6 +1,8 @@
+//! A sink over one of the outputs of the program.
 ghost use Rattle.std.specs.Prelude.{◌≡◌, OnOk, OnErr, None};
 ghost use Rattle.std.specs.Io.KnownBytes.{Appends};
 ghost use Rattle.outside_io.specs.Counts.{RisesBy};
+ghost use Rattle.outside_io.specs.States.{sink_state};
 ghost use Rattle.outside_io.specs.Writing.{AppendsPrefix};
 
 use crate::counts::Count;
@@ -8,7 +10,8 @@ use crate::faults::Failed;
 use crate::sinks::Sink;
 use std::io::Write;
 
-/// A sink over one of the program's outputs, as standard output. It tells nothing of what was written.
+/// A sink over one of the program's outputs, as standard output. It tells nothing of what was
+/// written.
 ///
 /// A failure of the writer is a fault, and so is a write that takes nothing of what is left.
 #[derive(Drop)]
@@ -50,11 +53,7 @@ fn write_through<W: Write>(writer: &mut W, bytes: &[u8]) -> Result<(), Failed>
 }
 
 impl<W: Write + Drop> Sink for StdSink<W> {
-    ghost written = { λ _. None };
-
-    ghost calls = { λ sink. sink.calls.times };
-
-    ghost faults = { λ sink. sink.faults.times };
+    ghost state = { λ sink. sink_state None sink.calls sink.faults };
 
     fn write(&mut self, bytes: &[u8]) -> Result<(), Failed>
         ensures called { RisesBy 1 self.old.calls.times self.new.calls.times }
@@ -75,7 +74,5 @@ impl<W: Write + Drop> Sink for StdSink<W> {
         answer
     }
 
-    ghost calls_fit = { λ sink. sink.calls.fits };
-
-    ghost faults_fit = { λ sink. sink.faults.fits };
+    ghost counts_fit = { λ sink. record { calls = sink.calls.fits; faults = sink.faults.fits } };
 }

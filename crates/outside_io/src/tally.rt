@@ -1,3 +1,4 @@
+//! The counts of a shelf, and which of them an answer raises.
 ghost use Rattle.std.specs.Prelude.{◌≤◌};
 ghost use Rattle.outside_io.specs.Counts.{Rose};
 ghost use Rattle.outside_io.specs.Reading.{OnAbsent, IfTooLong, OnFailed};
@@ -35,7 +36,8 @@ impl ShelfCounts {
         ensures absences { self.old.absences.times ≤ self.new.absences.times }
         ensures excesses { self.old.excesses.times ≤ self.new.excesses.times }
         ensures faults { self.old.faults.times ≤ self.new.faults.times }
-        ensures absent { OnAbsent answer.now (Rose self.old.absences.times self.new.absences.times) }
+        ensures absent { OnAbsent answer.now
+            (Rose self.old.absences.times self.new.absences.times) }
         ensures too_long { IfTooLong answer.now
             (λ _. Rose self.old.excesses.times self.new.excesses.times) }
         ensures failed { OnFailed answer.now (Rose self.old.faults.times self.new.faults.times) }

@@ -1,3 +1,4 @@
+//! Shelves and sinks that fail at listed calls, and files of the system.
 ghost use Rattle.std.specs.Prelude.{IfOk};
 ghost use Rattle.outside_io.specs.Reading.{NamesDiffer};
 

@@ -10,13 +10,15 @@ use Rattle.tfm_read.specs.Font.{IsTfm}
 use Rattle.pdfmicro_run.specs.declared.sizes.Sizes.{Sizes}
 use Rattle.pdfmicro_run.specs.declared.answer.Answer.{Answer}
 use Rattle.pdfmicro_run.specs.declared.answer.Answer.TheVariants.{Done, BadWords, Absent, ReadFault, FileTooLong, Job, NotPlain, Font, LongParagraph, OutFault, NoMemory}
-use Rattle.job_text.specs.declared.fault.JobFaultKind.{JobFaultKind}
+use Rattle.job_reading.specs.declared.fault.JobFaultKind.{JobFaultKind}
 use Rattle.job_text.specs.Answers.{Said, IsJobOf, IsFaultAt}
 use Rattle.pdfmicro_run.specs.declared.plain_job.PlainParagraph.{PlainParagraph}
 use Rattle.pdfmicro_run.specs.declared.plain_job.PlainJob.{PlainJob}
 use Rattle.pdfmicro_run.specs.PlainJob.{IsPlain, IsNoPlainJob}
 use Rattle.pdfmicro_run.specs.Galley.{sizes_of, IsShortIn, IsFirstLong, Serves}
-use Rattle.pdfmicro_run.specs.Run.{Files, Out, IsCommand, WasRead, ReadsJob, ReadsFont, font_file, AllShort, AfterFont, Explains, Causes, IsOutside, IsDone}
+use Rattle.outside_io.specs.Counts.{Rose}
+use Rattle.outside_io.specs.States.{ShelfState, SinkState}
+use Rattle.pdfmicro_run.specs.Run.{Files, IsCommand, WasRead, ReadsJob, ReadsFont, font_file, AllShort, AfterFont, Explains, Causes, IsOutside, IsDone}
 use Rattle.pdfmicro_run.proofs.GalleyGlyphs.{all_after}
 use Rattle.pdfmicro_run.proofs.OneReading.{Laws, one_name, one_file, one_bytes, one_reading}
 
@@ -35,7 +37,7 @@ one_font_read laws files a b tfm other differ same p q =
     laws.font q.bytes tfm other (subst P (same_bytes files a b p.bytes q.bytes differ same p.read q.read) p.font) q.font
 
 -- what is said of one reading is said of the other
-carried : (job job' : PlainJob) (tfm tfm' : Tfm) (old new : Out) (answer : Answer) → job' ≡ job → tfm' ≡ tfm → AfterFont job' tfm' old new answer → AfterFont job tfm old new answer
+carried : (job job' : PlainJob) (tfm tfm' : Tfm) (old new : SinkState) (answer : Answer) → job' ≡ job → tfm' ≡ tfm → AfterFont job' tfm' old new answer → AfterFont job tfm old new answer
 carried job job' tfm tfm' old new answer e f h =
     let P : PlainJob → Type 0 = λ j. AfterFont j tfm' old new answer in
     let Q : Tfm → Type 0 = λ t. AfterFont job t old new answer in
@@ -64,7 +66,7 @@ not_too_big files name other bytes found differ e has long has' short =
     let P : List ℕ → Type 0 = λ n. HasFile files n found in
     omega (arith, ap length (one_file files other found bytes differ (subst P e has) has'))
 
-determined_told : Laws → (files : List (List ℕ × List ℕ)) (words : List (List ℕ)) (job : PlainJob) (tfm : Tfm) (old new : Out) (answer : Answer) → NamesDiffer files → ReadsJob (Some files) words job → ReadsFont (Some files) job tfm → Explains (Some files) words old new answer → IsOutside answer ⊎ AfterFont job tfm old new answer
+determined_told : Laws → (files : List (List ℕ × List ℕ)) (words : List (List ℕ)) (job : PlainJob) (tfm : Tfm) (old new : SinkState) (answer : Answer) → NamesDiffer files → ReadsJob (Some files) words job → ReadsFont (Some files) job tfm → Explains (Some files) words old new answer → IsOutside answer ⊎ AfterFont job tfm old new answer
 determined_told laws files words job tfm old new BadWords differ read font h = absurd (h read.name read.command)
 determined_told laws files words job tfm old new NoMemory differ read font h = inl tt
 determined_told laws files words job tfm old new (ReadFault file) differ read font h = inl tt
@@ -98,7 +100,7 @@ determined_told laws files words job tfm old new (LongParagraph paragraph) diffe
     let same = one_reading laws files words job' job differ read' read in
     inr (carried job job' tfm tfm' old new (LongParagraph paragraph) same (one_font_read laws files job' job tfm' tfm differ same font' font) h)
 
-pub determined : Laws → (files : Files) (words : List (List ℕ)) (job : PlainJob) (tfm : Tfm) (old new : Out) (answer : Answer) → IfSome files NamesDiffer → IsSome files → ReadsJob files words job → ReadsFont files job tfm → Explains files words old new answer → IsOutside answer ⊎ AfterFont job tfm old new answer
+pub determined : Laws → (files : Files) (words : List (List ℕ)) (job : PlainJob) (tfm : Tfm) (old new : SinkState) (answer : Answer) → IfSome files NamesDiffer → IsSome files → ReadsJob files words job → ReadsFont files job tfm → Explains files words old new answer → IsOutside answer ⊎ AfterFont job tfm old new answer
 determined laws None words job tfm old new answer differ some read font h = absurd (false≢true some)
 determined laws (Some files) words job tfm old new answer differ some read font h = determined_told laws files words job tfm old new answer differ read font h
 
@@ -108,22 +110,22 @@ first_long sizes paragraphs number first each =
     first.long (all_after (IsShortIn sizes) first.before _ (subst P first.split each)).0
 
 -- a job that can be set is set, where nothing of the outside fails
-pub complete : (job : PlainJob) (tfm : Tfm) (old new : Out) (answer : Answer) (absences excesses faults out : Type 0) → IsOutside answer ⊎ AfterFont job tfm old new answer → Serves tfm job.paragraphs → AllShort tfm job → Causes answer absences excesses faults out → (faults → ⊥) → (out → ⊥) → IsDone answer
-complete job tfm old new Done a e f o h serves short causes no_fault no_out = tt
-complete job tfm old new NoMemory a e f o h serves short causes no_fault no_out = tt
-complete job tfm old new OutFault a e f o h serves short causes no_fault no_out = no_out causes
-complete job tfm old new (ReadFault file) a e f o h serves short causes no_fault no_out = no_fault causes
-complete job tfm old new (NotPlain file) a e f o (inl h) serves short causes no_fault no_out = h
-complete job tfm old new (NotPlain file) a e f o (inr h) serves short causes no_fault no_out = h.1 serves
-complete job tfm old new (LongParagraph paragraph) a e f o (inl h) serves short causes no_fault no_out = h
-complete job tfm old new (LongParagraph paragraph) a e f o (inr h) serves short causes no_fault no_out = first_long (sizes_of tfm) job.paragraphs paragraph h.1 short
-complete job tfm old new BadWords a e f o (inl h) serves short causes no_fault no_out = h
-complete job tfm old new BadWords a e f o (inr h) serves short causes no_fault no_out = h
-complete job tfm old new (Absent file) a e f o (inl h) serves short causes no_fault no_out = h
-complete job tfm old new (Absent file) a e f o (inr h) serves short causes no_fault no_out = h
-complete job tfm old new (FileTooLong file) a e f o (inl h) serves short causes no_fault no_out = h
-complete job tfm old new (FileTooLong file) a e f o (inr h) serves short causes no_fault no_out = h
-complete job tfm old new (Job place kind) a e f o (inl h) serves short causes no_fault no_out = h
-complete job tfm old new (Job place kind) a e f o (inr h) serves short causes no_fault no_out = h
-complete job tfm old new (Font number kind word) a e f o (inl h) serves short causes no_fault no_out = h
-complete job tfm old new (Font number kind word) a e f o (inr h) serves short causes no_fault no_out = h
+pub complete : (job : PlainJob) (tfm : Tfm) (old new : SinkState) (answer : Answer) (shelf later : ShelfState) → IsOutside answer ⊎ AfterFont job tfm old new answer → Serves tfm job.paragraphs → AllShort tfm job → Causes answer shelf later old new → ¬ Rose shelf.faults later.faults → ¬ Rose old.faults new.faults → IsDone answer
+complete job tfm old new Done shelf later h serves short causes no_fault no_out = tt
+complete job tfm old new NoMemory shelf later h serves short causes no_fault no_out = tt
+complete job tfm old new OutFault shelf later h serves short causes no_fault no_out = no_out causes
+complete job tfm old new (ReadFault file) shelf later h serves short causes no_fault no_out = no_fault causes
+complete job tfm old new (NotPlain file) shelf later (inl h) serves short causes no_fault no_out = h
+complete job tfm old new (NotPlain file) shelf later (inr h) serves short causes no_fault no_out = h.1 serves
+complete job tfm old new (LongParagraph paragraph) shelf later (inl h) serves short causes no_fault no_out = h
+complete job tfm old new (LongParagraph paragraph) shelf later (inr h) serves short causes no_fault no_out = first_long (sizes_of tfm) job.paragraphs paragraph h.1 short
+complete job tfm old new BadWords shelf later (inl h) serves short causes no_fault no_out = h
+complete job tfm old new BadWords shelf later (inr h) serves short causes no_fault no_out = h
+complete job tfm old new (Absent file) shelf later (inl h) serves short causes no_fault no_out = h
+complete job tfm old new (Absent file) shelf later (inr h) serves short causes no_fault no_out = h
+complete job tfm old new (FileTooLong file) shelf later (inl h) serves short causes no_fault no_out = h
+complete job tfm old new (FileTooLong file) shelf later (inr h) serves short causes no_fault no_out = h
+complete job tfm old new (Job place kind) shelf later (inl h) serves short causes no_fault no_out = h
+complete job tfm old new (Job place kind) shelf later (inr h) serves short causes no_fault no_out = h
+complete job tfm old new (Font number kind word) shelf later (inl h) serves short causes no_fault no_out = h
+complete job tfm old new (Font number kind word) shelf later (inr h) serves short causes no_fault no_out = h

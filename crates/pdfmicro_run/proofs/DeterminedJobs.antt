@@ -3,13 +3,14 @@
 use Rattle.std.proofs.Common.{◌≡◌, ℕ, List, Some, None, IfSome, IsSome, ap, ◌∙◌, subst, ◌⊎◌, inl, inr}
 use Rattle.std.proofs.lemmas.Bool.{false≢true}
 use Rattle.outside_io.specs.Reading.{NamesDiffer, HasFile}
-use Rattle.job_text.specs.declared.fault.JobFaultKind.{JobFaultKind}
+use Rattle.job_reading.specs.declared.fault.JobFaultKind.{JobFaultKind}
 use Rattle.job_text.specs.Answers.{IsFaultAt}
 use Rattle.pdfmicro_run.specs.declared.answer.Answer.{Answer}
 use Rattle.pdfmicro_run.specs.declared.answer.Answer.TheVariants.{Done, BadWords, Absent, ReadFault, FileTooLong, Job, NotPlain, Font, LongParagraph, OutFault, NoMemory}
 use Rattle.pdfmicro_run.specs.declared.plain_job.PlainJob.{PlainJob}
 use Rattle.pdfmicro_run.specs.PlainJob.{IsNoPlainJob}
-use Rattle.pdfmicro_run.specs.Run.{Files, Out, IsCommand, WasRead, ReadsJob, Explains, IsOutside}
+use Rattle.outside_io.specs.States.{SinkState}
+use Rattle.pdfmicro_run.specs.Run.{Files, IsCommand, WasRead, ReadsJob, Explains, IsOutside}
 use Rattle.pdfmicro_run.proofs.OneReading.{Laws, one_name, one_file}
 use Rattle.pdfmicro_run.proofs.Determined.{not_unplain, not_faulty, not_missing, not_too_big}
 
@@ -26,7 +27,7 @@ same_file files words name other bytes found differ command command' was was' =
     one_file files name found bytes differ (subst P (one_name words other name command' command) was'.told) was.told
 
 module _ (files : List (List ℕ × List ℕ)) (words : List (List ℕ)) (name bytes : List ℕ) (differ : NamesDiffer files) (command : IsCommand words name) (was : WasRead (Some files) name bytes) where
-  told : (old new : Out) (answer : Answer) → ((job : PlainJob) → ReadsJob (Some files) words job → ⊥) → Explains (Some files) words old new answer → IsOutside answer ⊎ FromBytes bytes answer
+  told : (old new : SinkState) (answer : Answer) → ((job : PlainJob) → ReadsJob (Some files) words job → ⊥) → Explains (Some files) words old new answer → IsOutside answer ⊎ FromBytes bytes answer
   told old new BadWords none h = absurd (h name command)
   told old new NoMemory none h = inl tt
   told old new (ReadFault file) none h = inl tt
@@ -59,7 +60,7 @@ faulty_answer laws bytes place kind (Job other another) fault h =
     ap (λ n. Job n another) same.0 ∙ ap (Job place) same.1
 faulty_answer laws bytes place kind answer fault h = absurd h
 
-pub form_is_told : Laws → (files : Files) (words : List (List ℕ)) (name bytes : List ℕ) (old new : Out) (answer : Answer) → IfSome files NamesDiffer → IsSome files → IsCommand words name → WasRead files name bytes → IsNoPlainJob bytes → Explains files words old new answer → IsOutside answer ⊎ (answer ≡ NotPlain 0)
+pub form_is_told : Laws → (files : Files) (words : List (List ℕ)) (name bytes : List ℕ) (old new : SinkState) (answer : Answer) → IfSome files NamesDiffer → IsSome files → IsCommand words name → WasRead files name bytes → IsNoPlainJob bytes → Explains files words old new answer → IsOutside answer ⊎ (answer ≡ NotPlain 0)
 form_is_told laws None words name bytes old new answer differ some command was unplain h = absurd (false≢true some)
 form_is_told laws (Some files) words name bytes old new answer differ some command was unplain h =
     elim (told files words name bytes differ command was old new answer (λ job read. not_unplain laws files words name bytes job differ command was unplain read) h) [
@@ -67,7 +68,7 @@ form_is_told laws (Some files) words name bytes old new answer differ some comma
       | inr from ↦ inr (unplain_answer laws bytes answer unplain from)
     ]
 
-pub job_fault_is_told : Laws → (files : Files) (words : List (List ℕ)) (name bytes : List ℕ) (place : ℕ) (kind : JobFaultKind) (old new : Out) (answer : Answer) → IfSome files NamesDiffer → IsSome files → IsCommand words name → WasRead files name bytes → IsFaultAt bytes place kind → Explains files words old new answer → IsOutside answer ⊎ (answer ≡ Job place kind)
+pub job_fault_is_told : Laws → (files : Files) (words : List (List ℕ)) (name bytes : List ℕ) (place : ℕ) (kind : JobFaultKind) (old new : SinkState) (answer : Answer) → IfSome files NamesDiffer → IsSome files → IsCommand words name → WasRead files name bytes → IsFaultAt bytes place kind → Explains files words old new answer → IsOutside answer ⊎ (answer ≡ Job place kind)
 job_fault_is_told laws None words name bytes place kind old new answer differ some command was fault h = absurd (false≢true some)
 job_fault_is_told laws (Some files) words name bytes place kind old new answer differ some command was fault h =
     elim (told files words name bytes differ command was old new answer (λ job read. not_faulty laws files words name bytes place kind job differ command was fault read) h) [

@@ -2,8 +2,8 @@
 use Rattle.std.proofs.Common.{◌≡◌, ℕ, ◌+◌, ◌<◌, List, [], ◌∷◌, ◌++◌, length, drop, get_or, sym, ◌∙◌, ap, subst, append_assoc, drop-cons, add-one, ℤ, pos, ◌+ℤ◌, ◌≤ℤ◌}
 use Rattle.std.specs.List.{AllByRecursion}
 use Rattle.pdfmicro_run.specs.declared.sizes.Sizes.{Sizes}
-use Rattle.pdfmicro_run.specs.declared.pages.Cell.{Cell}
-use Rattle.pdfmicro_run.specs.declared.pages.Placed.{Placed}
+use Rattle.instance_core.specs.declared.cell.Cell.{Cell}
+use Rattle.instance_core.specs.declared.page.Placed.{Placed}
 use Rattle.pdfmicro_run.specs.Galley.{size_at, glyph_at, glyphs_from, InMeasure}
 
 pub all_after : {X : Type 0} (P : X → Type 0) (xs ys : List X) → AllByRecursion P (xs ++ ys) → AllByRecursion P ys

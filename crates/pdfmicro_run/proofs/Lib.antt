@@ -1,5 +1,3 @@
-pub mod DefinableCells
-pub mod DefinedFonts
 pub mod Determined
 pub mod DeterminedFaults
 pub mod DeterminedJobs
@@ -7,12 +5,10 @@ pub mod Elements
 pub mod GalleyGlyphs
 pub mod GalleyPage
 pub mod OneReading
-pub mod PageSteps
 pub mod PiecesLaws
 pub mod PlainLength
 pub mod PlainPagesLaws
 pub mod PlainJobs
 pub mod RunLaws
+pub mod SameParams
 pub mod ScaledSizes
-pub mod ThreeLetters
-pub mod UsesLaws

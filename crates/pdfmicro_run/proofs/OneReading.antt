@@ -4,7 +4,7 @@ use Rattle.std.proofs.Common.{◌≡◌, ℕ, ◌<◌, List, [], ◌∷◌, leng
 use Rattle.std.proofs.lemmas.Bool.{cases_order}
 use Rattle.std.proofs.lemmas.List.{get_or_default}
 use Rattle.outside_io.specs.Reading.{NamesDiffer, HasFile}
-use Rattle.job_text.specs.declared.fault.JobFaultKind.{JobFaultKind}
+use Rattle.job_reading.specs.declared.fault.JobFaultKind.{JobFaultKind}
 use Rattle.job_text.specs.Answers.{Said, IsJobOf, IsFaultAt}
 use Rattle.tfm_read.specs.declared.tfm.Tfm.{Tfm}
 use Rattle.tfm_read.specs.Font.{IsTfm}

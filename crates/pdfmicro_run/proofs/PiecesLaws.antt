@@ -5,10 +5,11 @@ use Rattle.std.specs.Io.KnownBytes.{Appends}
 use Rattle.std.proofs.KnownBytes.{Appends-nil, Appends-trans}
 use Rattle.outside_io.specs.Counts.{RisesBy}
 use Rattle.outside_io.specs.Writing.{AppendsPrefix}
-use Rattle.pdfmicro_run.specs.Run.{Out, pieces, Writes, WritesPart}
+use Rattle.outside_io.specs.States.{SinkState}
+use Rattle.pdfmicro_run.specs.Run.{pieces, Writes, WritesPart}
 
 -- a front was written, in as many calls as it has pieces, and the rest is to come
-pub record Fronts (bytes rest : List ℕ) (old new : Out) : Type 0 where
+pub record Fronts (bytes rest : List ℕ) (old new : SinkState) : Type 0 where
   pub front : List ℕ
   pub calls : ℕ
   pub split : front ++ rest ≡ bytes
@@ -16,7 +17,7 @@ pub record Fronts (bytes rest : List ℕ) (old new : Out) : Type 0 where
   pub counted : calls + pieces (length rest) ≡ pieces (length bytes)
   pub rises : RisesBy calls old.calls new.calls
 
-pub fronts_none : (bytes : List ℕ) (old : Out) → old.calls < 2 ^ 64 → Fronts bytes bytes old old
+pub fronts_none : (bytes : List ℕ) (old : SinkState) → old.calls < 2 ^ 64 → Fronts bytes bytes old old
 fronts_none bytes old fits = record {
   front = [];
   calls = 0;
@@ -30,7 +31,7 @@ fronts_none bytes old fits = record {
 one_piece : (rest next : ℕ) → 0 < rest → next ≡ rest - min rest 16384 → pieces rest ≡ 1 + pieces next
 one_piece rest next some e = omega arith
 
-pub fronts_more : (bytes rest piece next : List ℕ) (n : ℕ) (old mid new : Out) → Fronts bytes rest old mid → 0 < length rest → n ≡ min (length rest) 16384 → piece ≡ take n rest → next ≡ drop n rest → Appends mid.written new.written piece → RisesBy 1 mid.calls new.calls → Fronts bytes next old new
+pub fronts_more : (bytes rest piece next : List ℕ) (n : ℕ) (old mid new : SinkState) → Fronts bytes rest old mid → 0 < length rest → n ≡ min (length rest) 16384 → piece ≡ take n rest → next ≡ drop n rest → Appends mid.written new.written piece → RisesBy 1 mid.calls new.calls → Fronts bytes next old new
 fronts_more bytes rest piece next n old mid new f some size piece_is next_is appends rises =
     let len : length next ≡ length rest - min (length rest) 16384 = ap length next_is ∙ length-drop n rest ∙ ap (λ k. length rest - k) size in
     let whole : piece ++ next ≡ rest = ap (λ z. z ++ next) piece_is ∙ ap (λ z. take n rest ++ z) next_is ∙ take-append-drop n rest in
@@ -43,7 +44,7 @@ fronts_more bytes rest piece next n old mid new f some size piece_is next_is app
       rises = omega (arith, f.rises, rises);
     }
 
-pub fronts_all : (bytes rest : List ℕ) (old new : Out) → Fronts bytes rest old new → rest ≡ [] → Writes bytes old new
+pub fronts_all : (bytes rest : List ℕ) (old new : SinkState) → Fronts bytes rest old new → rest ≡ [] → Writes bytes old new
 fronts_all bytes rest old new f none =
     let front : f.front ≡ bytes = sym (append-nil f.front) ∙ ap (λ z. f.front ++ z) (sym none) ∙ f.split in
     let P : List ℕ → Type 0 = Appends old.written new.written in
@@ -51,7 +52,7 @@ fronts_all bytes rest old new f none =
     let none_left : length rest ≡ 0 = ap length none in
     (subst P front f.appends, subst Q (omega (arith, f.counted)) f.rises)
 
-pub fronts_part : (bytes rest piece next : List ℕ) (n : ℕ) (old mid new : Out) → Fronts bytes rest old mid → 0 < length rest → n ≡ min (length rest) 16384 → piece ≡ take n rest → next ≡ drop n rest → AppendsPrefix mid.written new.written piece → RisesBy 1 mid.calls new.calls → WritesPart bytes old new
+pub fronts_part : (bytes rest piece next : List ℕ) (n : ℕ) (old mid new : SinkState) → Fronts bytes rest old mid → 0 < length rest → n ≡ min (length rest) 16384 → piece ≡ take n rest → next ≡ drop n rest → AppendsPrefix mid.written new.written piece → RisesBy 1 mid.calls new.calls → WritesPart bytes old new
 fronts_part bytes rest piece next n old mid new f some size piece_is next_is (part, left, cut, appends) rises =
     let len : length next ≡ length rest - min (length rest) 16384 = ap length next_is ∙ length-drop n rest ∙ ap (λ k. length rest - k) size in
     let whole : piece ++ next ≡ rest = ap (λ z. z ++ next) piece_is ∙ ap (λ z. take n rest ++ z) next_is ∙ take-append-drop n rest in (

@@ -4,13 +4,13 @@ use Rattle.std.proofs.lemmas.Int.{ints, fold-int_max_bounds}
 use Rattle.std.specs.List.{All, AllByRecursion}
 use Rattle.std.proofs.lemmas.List.Elements.{All-from_recursion}
 use Rattle.pdfmicro_run.specs.declared.sizes.Sizes.{Sizes}
-use Rattle.pdfmicro_run.specs.declared.pages.FontRow.{FontRow}
-use Rattle.pdfmicro_run.specs.Dvi.{row_of, instance_name}
+use Rattle.dvi_write.specs.declared.row.FontRow.{FontRow}
+use Rattle.dvi_write.specs.Document.{row_of, instance_name}
+use Rattle.dvi_write.specs.Writable.{IsPlace, IsDefinable, IsGlyphWritable, IsLineWritable, IsWritable}
 use Rattle.pdfmicro_run.specs.declared.plain_job.PlainParagraph.{PlainParagraph}
-use Rattle.pdfmicro_run.specs.Galley.{size_at, glyphs_from, greatest_size, line_of, page_of, page_in, InMeasure, IsShort, IsShortIn}
+use Rattle.pdfmicro_run.specs.Galley.{size_at, glyphs_from, greatest_size, line_of, placed_of, page_of, page_in, InMeasure, IsShort, IsShortIn}
 use Rattle.pdfmicro_run.specs.PlainReading.{IsKeptParagraph}
 use Rattle.pdfmicro_run.specs.PlainPages.{base, Adjoin, IsPlainPage}
-use Rattle.pdfmicro_run.specs.Writable.{IsPlace, IsDefinable, IsGlyphWritable, IsLineWritable, IsWritable}
 
 length-glyphs_from : (sizes : Sizes) (x : ℤ) (text : List ℕ) → length (glyphs_from sizes x text) ≡ length text
 length-glyphs_from sizes x [] = refl
@@ -23,7 +23,7 @@ adjoin sizes x (code ∷ codes) = (refl, refl, adjoin sizes (x +ℤ size_at size
 pub plain_page : (sizes : Sizes) (hsize : ℤ) (text : List ℕ) → length text ≤ 16000 → IsPlainPage (page_of sizes hsize text)
 unfolding page_of line_of
 plain_page sizes hsize text few = record {
-  line = line_of sizes hsize text;
+  placed = placed_of sizes hsize text;
   one = refl;
   few = omega (arith, length-glyphs_from sizes (pos 0) text);
   adjoin = adjoin sizes (pos 0) text;
@@ -56,12 +56,14 @@ glyphs_writable row sizes hsize x (code ∷ codes) few wide h = (
 
 pub page_writable : (row : FontRow) (sizes : Sizes) (hsize : ℤ) (text : List ℕ) → length row.name ≤ 40 → hsize ≤ℤ pos 1073741823 → pos 0 ≤ℤ greatest_size sizes.heights text → IsShort sizes hsize text → IsWritable (row ∷ []) (page_of sizes hsize text)
 unfolding page_of line_of
-page_writable row sizes hsize text few wide natural short = record {
-  baselines = refl;
-  on_lines = All-from_recursion IsPlace (greatest_size sizes.heights text ∷ []) (record { low = omega (arith, ints); high = short.height }, tt);
-  glyphs = All-from_recursion (IsLineWritable (row ∷ [])) (line_of sizes hsize text ∷ [])
-      (All-from_recursion (IsGlyphWritable (row ∷ [])) (glyphs_from sizes (pos 0) text) (glyphs_writable row sizes hsize (pos 0) text few wide short.glyphs), tt);
-}
+page_writable row sizes hsize text few wide natural short =
+    All-from_recursion (IsLineWritable (row ∷ [])) (placed_of sizes hsize text ∷ []) (
+      record {
+        baseline = record { low = omega (arith, ints); high = short.height };
+        glyphs = All-from_recursion (IsGlyphWritable (row ∷ [])) (glyphs_from sizes (pos 0) text) (glyphs_writable row sizes hsize (pos 0) text few wide short.glyphs);
+      },
+      tt,
+    )
 
 natural_height : (sizes : Sizes) (text : List ℕ) → pos 0 ≤ℤ greatest_size sizes.heights text
 natural_height sizes text = (fold-int_max_bounds (pos 0) (map (size_at sizes.heights) text) (greatest_size sizes.heights text) refl).0

@@ -10,9 +10,10 @@ use Rattle.outside_io.specs.declared.faults.ShelfFault.{ShelfFault}
 use Rattle.outside_io.specs.declared.faults.ShelfFault.TheVariants.{Absent as ShelfAbsent}
 use Rattle.outside_io.specs.Counts.{RisesBy}
 use Rattle.outside_io.specs.Reading.{HasFile, Answers}
-use Rattle.pdfmicro_run.specs.Run.{Files, Out, WasRead, IsMissing, ReadsJob, font_file, AfterFont, AfterJob, WithFontBytes, WithJobBytes, IsCommand, Explains, ShelfCalls, ShelfCallsAfterJob}
+use Rattle.outside_io.specs.States.{SinkState}
+use Rattle.pdfmicro_run.specs.Run.{Files, WasRead, IsMissing, ReadsJob, font_file, AfterFont, AfterJob, WithFontBytes, WithJobBytes, IsCommand, Explains, ShelfCalls, ShelfCallsAfterJob}
 
-pub bytes_after_font : (job : PlainJob) (bytes : List ℕ) (tfm : Tfm) (old new : Out) (answer : Answer) → IsTfm bytes tfm → AfterFont job tfm old new answer → WithFontBytes job bytes old new answer
+pub bytes_after_font : (job : PlainJob) (bytes : List ℕ) (tfm : Tfm) (old new : SinkState) (answer : Answer) → IsTfm bytes tfm → AfterFont job tfm old new answer → WithFontBytes job bytes old new answer
 bytes_after_font job bytes tfm old new Done is h = (tfm, is, h)
 bytes_after_font job bytes tfm old new OutFault is h = (tfm, is, h)
 bytes_after_font job bytes tfm old new (NotPlain file) is h = (tfm, is, h)
@@ -25,7 +26,7 @@ bytes_after_font job bytes tfm old new (ReadFault file) is h = absurd h
 bytes_after_font job bytes tfm old new (FileTooLong file) is h = absurd h
 bytes_after_font job bytes tfm old new (Font font kind word) is h = absurd h
 
-pub job_after_bytes : (files : Files) (job : PlainJob) (bytes : List ℕ) (old new : Out) (answer : Answer) → WasRead files (font_file job) bytes → WithFontBytes job bytes old new answer → AfterJob files job old new answer
+pub job_after_bytes : (files : Files) (job : PlainJob) (bytes : List ℕ) (old new : SinkState) (answer : Answer) → WasRead files (font_file job) bytes → WithFontBytes job bytes old new answer → AfterJob files job old new answer
 job_after_bytes files job bytes old new Done read h = (h.0, record { bytes = bytes; read = read; font = h.1 }, h.2)
 job_after_bytes files job bytes old new OutFault read h = (h.0, record { bytes = bytes; read = read; font = h.1 }, h.2)
 job_after_bytes files job bytes old new (NotPlain file) read h = (h.0, record { bytes = bytes; read = read; font = h.1 }, h.2)
@@ -39,7 +40,7 @@ job_after_bytes files job bytes old new (FileTooLong file) read h = absurd h.2
 job_after_bytes files job bytes old new (Font font kind word) read h =
     (h.0, record { bytes = bytes; read = read; fault = h.1.0; first = h.1.1; is_kind = h.1.2; is_word = h.1.3 })
 
-pub explained_after_job : (files : Files) (words : List (List ℕ)) (job : PlainJob) (old new : Out) (answer : Answer) → ReadsJob files words job → AfterJob files job old new answer → Explains files words old new answer
+pub explained_after_job : (files : Files) (words : List (List ℕ)) (job : PlainJob) (old new : SinkState) (answer : Answer) → ReadsJob files words job → AfterJob files job old new answer → Explains files words old new answer
 explained_after_job files words job old new Done read h = (job, read, h)
 explained_after_job files words job old new OutFault read h = (job, read, h)
 explained_after_job files words job old new (NotPlain file) read h = inr (job, read, h)
@@ -65,7 +66,7 @@ is_missing (Some files) asked name fault e f told =
     let Q : List ℕ → Type 0 = λ n. (bytes : List ℕ) → ¬ HasFile files n bytes in
     subst Q e (subst P f told)
 
-pub with_job_bytes : (files : Files) (bytes : List ℕ) (job : PlainJob) (old new : Out) (answer : Answer) → IsPlainJob bytes job → AfterJob files job old new answer → WithJobBytes files bytes old new answer
+pub with_job_bytes : (files : Files) (bytes : List ℕ) (job : PlainJob) (old new : SinkState) (answer : Answer) → IsPlainJob bytes job → AfterJob files job old new answer → WithJobBytes files bytes old new answer
 with_job_bytes files bytes job old new Done plain h = (job, plain, h)
 with_job_bytes files bytes job old new OutFault plain h = (job, plain, h)
 with_job_bytes files bytes job old new (NotPlain file) plain h = inr (job, plain, h)
@@ -81,7 +82,7 @@ with_job_bytes files bytes job old new (Font font kind word) plain h = (job, pla
 reads : (files : Files) (words : List (List ℕ)) (name bytes : List ℕ) (job : PlainJob) → IsCommand words name → WasRead files name bytes → IsPlainJob bytes job → ReadsJob files words job
 reads files words name bytes job command read plain = record { name = name; bytes = bytes; command = command; read = read; plain = plain }
 
-pub explained_with_job : (files : Files) (words : List (List ℕ)) (name bytes : List ℕ) (old new : Out) (answer : Answer) → IsCommand words name → WasRead files name bytes → WithJobBytes files bytes old new answer → Explains files words old new answer
+pub explained_with_job : (files : Files) (words : List (List ℕ)) (name bytes : List ℕ) (old new : SinkState) (answer : Answer) → IsCommand words name → WasRead files name bytes → WithJobBytes files bytes old new answer → Explains files words old new answer
 explained_with_job files words name bytes old new (NotPlain file) command read (inl h) = inl (h.0, (name, command, (bytes, read, h.1)))
 explained_with_job files words name bytes old new (NotPlain file) command read (inr h) = inr (h.0, reads files words name bytes h.0 command read h.1, h.2)
 explained_with_job files words name bytes old new NoMemory command read h = tt
@@ -96,7 +97,7 @@ explained_with_job files words name bytes old new (FileTooLong file) command rea
 explained_with_job files words name bytes old new (Font font kind word) command read h = explained_after_job files words h.0 old new (Font font kind word) (reads files words name bytes h.0 command read h.1) h.2
 
 -- one call, and the answer to what it read
-pub calls_after_bytes : (job : PlainJob) (bytes : List ℕ) (old new : Out) (answer : Answer) (before after : ℕ) → WithFontBytes job bytes old new answer → RisesBy 1 before after → ShelfCallsAfterJob answer before after
+pub calls_after_bytes : (job : PlainJob) (bytes : List ℕ) (old new : SinkState) (answer : Answer) (before after : ℕ) → WithFontBytes job bytes old new answer → RisesBy 1 before after → ShelfCallsAfterJob answer before after
 calls_after_bytes job bytes old new Done before after h e = e
 calls_after_bytes job bytes old new OutFault before after h e = e
 calls_after_bytes job bytes old new (NotPlain file) before after h e = omega (arith, h.2.0, e)

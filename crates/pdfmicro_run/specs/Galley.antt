@@ -14,12 +14,13 @@ use Rattle.micro_num.specs.Scaling.{scaled}
 use Rattle.tfm_read.specs.declared.character.CharInfo.{CharInfo}
 use Rattle.tfm_read.specs.declared.tfm.Tfm.{Tfm}
 use Rattle.tfm_read.specs.Ranges.{exists_at}
+use Rattle.instance_core.specs.declared.page.Placed.{Placed}
+use Rattle.instance_core.specs.declared.page.Packed.{Packed}
+use Rattle.instance_core.specs.declared.page.PageLine.{PageLine}
+use Rattle.instance_core.specs.declared.page.Page.{Page}
+use Rattle.dvi_write.specs.declared.row.FontRow.{FontRow}
+use Rattle.dvi_write.specs.Document.{dvi}
 use Rattle.pdfmicro_run.specs.declared.sizes.Sizes.{Sizes}
-use Rattle.pdfmicro_run.specs.declared.pages.Placed.{Placed}
-use Rattle.pdfmicro_run.specs.declared.pages.Packed.{Packed}
-use Rattle.pdfmicro_run.specs.declared.pages.Page.{Page}
-use Rattle.pdfmicro_run.specs.declared.pages.FontRow.{FontRow}
-use Rattle.pdfmicro_run.specs.Dvi.{dvi}
 use Rattle.pdfmicro_run.specs.PlainPages.{base}
 use Rattle.pdfmicro_run.specs.declared.plain_job.PlainParagraph.{PlainParagraph}
 use Rattle.pdfmicro_run.specs.declared.plain_job.PlainJob.{PlainJob}
@@ -56,10 +57,12 @@ line_of sizes hsize text = record {
 }
 
 -- the baseline is as far down as the line is high
+abbrev pub placed_of : Sizes → ℤ → List ℕ → PageLine
+placed_of sizes hsize text = record { baseline = greatest_size sizes.heights text; line = line_of sizes hsize text }
+
 unfoldable pub page_of : Sizes → ℤ → List ℕ → Page
 page_of sizes hsize text = record {
-  lines = line_of sizes hsize text ∷ [];
-  baselines = greatest_size sizes.heights text ∷ [];
+  lines = placed_of sizes hsize text ∷ [];
   extent = greatest_size sizes.heights text +ℤ greatest_size sizes.depths text;
   width = hsize;
 }

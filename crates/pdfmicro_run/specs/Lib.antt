@@ -1,4 +1,3 @@
-pub mod Dvi
 pub mod Galley
 pub mod GalleyReading
 pub mod GalleysReading
@@ -7,7 +6,4 @@ pub mod PlainPages
 pub mod PlainReading
 pub mod Run
 pub mod Status
-pub mod Uses
 pub mod Words
-pub mod Worked
-pub mod Writable

@@ -50,6 +50,7 @@ with_hsize hsize = record plain_params { hsize = hsize }
 
 pub record IsPlainPar (hyphen : ℤ) (par : Par) (paragraph : PlainParagraph) : Type 0 where
   pub unindented : par.indent ≡ false
+  pub shapeless : par.shape ≡ []
   pub params : par.params ≡ with_hsize paragraph.hsize
   pub wide : pos 1 ≤ℤ paragraph.hsize
   pub text : IsTextOf hyphen (parts_of par.parts) paragraph.text

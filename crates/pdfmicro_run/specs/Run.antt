@@ -5,32 +5,35 @@
 --     AfterFont, AfterJob, Explains   what an answer says once the font is there, once the job is, and whole
 --     Causes, ShelfCalls, Quiet       the counts that rose, the reads made, and that nothing was written
 -- Where the shelf tells no files, bytes of some kind were read, and the same is said of them.
-use Rattle.std.specs.Prelude.{◌≡◌, ℕ, ◌+◌, ◌/◌, ◌<◌, ◌≤◌, List, [], ◌∷◌, ◌++◌, length, codes, Option, Some, IfSome, ◌⊎◌, ⊤}
+use Rattle.std.specs.Prelude.{◌≡◌, refl, ℕ, ◌+◌, ◌-◌, ◌/◌, ◌<◌, ◌≤◌, List, [], ◌∷◌, ◌++◌, length, codes, Option, Some, IfSome, ◌⊎◌, ⊤}
 use Rattle.std.specs.List.{AllByRecursion}
 use Rattle.std.specs.Io.KnownBytes.{Appends}
-use Rattle.outside_io.specs.Counts.{RisesBy}
+use Rattle.outside_io.specs.Counts.{Rose, RisesBy}
 use Rattle.outside_io.specs.Reading.{HasFile}
+use Rattle.outside_io.specs.States.{ShelfState, SinkState, Files as ToldFiles}
 use Rattle.outside_io.specs.Writing.{AppendsPrefix}
 use Rattle.tfm_read.specs.declared.tfm.Tfm.{Tfm}
+use Rattle.tfm_read.specs.declared.fault.TfmFaultKind.{TfmFaultKind}
 use Rattle.tfm_read.specs.Checks.{Fault, fault_of}
-use Rattle.tfm_read.specs.FaultNumbers.{number_of}
 use Rattle.tfm_read.specs.Font.{IsTfm}
 use Rattle.pdfmicro_run.specs.declared.answer.Answer.{Answer}
 use Rattle.job_text.specs.Answers.{IsFaultAt}
 use Rattle.pdfmicro_run.specs.declared.answer.Answer.TheVariants.{Done, BadWords, Absent, ReadFault, FileTooLong, Job, NotPlain, Font, LongParagraph, OutFault, NoMemory}
 use Rattle.pdfmicro_run.specs.declared.plain_job.PlainJob.{PlainJob}
+use Rattle.pdfmicro_run.specs.declared.pieces.TheConstants.{PIECE}
+use Rattle.pdfmicro_run.specs.declared.run.TheConstants.{MOST_FILE_BYTES}
 use Rattle.pdfmicro_run.specs.PlainJob.{IsPlainJob, IsNoPlainJob}
 use Rattle.pdfmicro_run.specs.Galley.{sizes_of, IsShortIn, IsFirstLong, Serves, galley}
 
 abbrev pub Files : Type 0
-Files = Option (List (List ℕ × List ℕ))
+Files = Option ToldFiles
 
 abbrev pub IsCommand : List (List ℕ) → List ℕ → Type 0
 IsCommand words name = (program : List ℕ) × (words ≡ program ∷ codes "set" ∷ name ∷ [])
 
 -- at most 16,777,216 bytes; where the files are told, those of that name
 pub record WasRead (files : Files) (name bytes : List ℕ) : Type 0 where
-  pub within : length bytes ≤ 16777216
+  pub within : length bytes ≤ MOST_FILE_BYTES
   pub told : IfSome files (λ told. HasFile told name bytes)
 
 -- where the files are told, none has the name
@@ -39,7 +42,7 @@ IsMissing files name = IfSome files (λ told. (bytes : List ℕ) → ¬ HasFile 
 
 -- where the files are told, the file of that name has more bytes
 abbrev pub IsTooBig : Files → List ℕ → Type 0
-IsTooBig files name = IfSome files (λ told. (bytes : List ℕ) × HasFile told name bytes × (16777216 < length bytes))
+IsTooBig files name = IfSome files (λ told. (bytes : List ℕ) × HasFile told name bytes × (MOST_FILE_BYTES < length bytes))
 
 -- the name of the font's file
 abbrev pub font_file : PlainJob → List ℕ
@@ -60,38 +63,40 @@ pub record ReadsFont (files : Files) (job : PlainJob) (tfm : Tfm) : Type 0 where
   pub font : IsTfm bytes tfm
 
 -- the job's font was read, and its first fault is this one
-pub record HasFontFault (files : Files) (job : PlainJob) (kind word : ℕ) : Type 0 where
+pub record HasFontFault (files : Files) (job : PlainJob) (kind : TfmFaultKind) (word : ℕ) : Type 0 where
   pub bytes : List ℕ
   pub read : WasRead files (font_file job) bytes
   pub fault : Fault
   pub first : fault_of bytes ≡ Some fault
-  pub is_kind : kind ≡ number_of fault.kind
+  pub is_kind : kind ≡ fault.kind
   pub is_word : word ≡ fault.word
 
 -- each paragraph fits on its line
 abbrev pub AllShort : Tfm → PlainJob → Type 0
 AllShort tfm job = AllByRecursion (IsShortIn (sizes_of tfm)) job.paragraphs
 
--- what an output is seen as: its bytes, where it tells them, and its calls
-pub record Out : Type 0 where
-  pub written : Option (List ℕ)
-  pub calls : ℕ
+-- the two limits in numbers
+pub greatest_file : MOST_FILE_BYTES ≡ 16777216
+greatest_file = refl
+
+pub whole_piece : PIECE ≡ 16384
+whole_piece = refl
 
 -- bytes are written in pieces of 16,384, of which the last may be shorter
 abbrev pub pieces : ℕ → ℕ
-pieces bytes = (bytes + 16383) / 16384
+pieces bytes = (bytes + (PIECE - 1)) / PIECE
 
 -- all of the bytes were written
-abbrev pub Writes : List ℕ → Out → Out → Type 0
+abbrev pub Writes : List ℕ → SinkState → SinkState → Type 0
 Writes bytes old new = Appends old.written new.written bytes × RisesBy (pieces (length bytes)) old.calls new.calls
 
 -- a first part of the bytes was written
-abbrev pub WritesPart : List ℕ → Out → Out → Type 0
+abbrev pub WritesPart : List ℕ → SinkState → SinkState → Type 0
 WritesPart bytes old new =
     AppendsPrefix old.written new.written bytes × ((calls : ℕ) × (calls ≤ pieces (length bytes)) × RisesBy calls old.calls new.calls)
 
 -- what an answer says once the job and its font are there
-abbrev pub AfterFont : PlainJob → Tfm → Out → Out → Answer → Type 0
+abbrev pub AfterFont : PlainJob → Tfm → SinkState → SinkState → Answer → Type 0
 AfterFont job tfm old new Done = Serves tfm job.paragraphs × AllShort tfm job × Writes (galley tfm job) old new
 AfterFont job tfm old new OutFault = Serves tfm job.paragraphs × AllShort tfm job × WritesPart (galley tfm job) old new
 AfterFont job tfm old new (NotPlain file) = (file ≡ 1) × (Serves tfm job.paragraphs → ⊥)
@@ -110,7 +115,7 @@ abbrev pub WithFont : Files → PlainJob → (Tfm → Type 0) → Type 0
 WithFont files job P = (tfm : Tfm) × ReadsFont files job tfm × P tfm
 
 -- what an answer says once the job is there
-abbrev pub AfterJob : Files → PlainJob → Out → Out → Answer → Type 0
+abbrev pub AfterJob : Files → PlainJob → SinkState → SinkState → Answer → Type 0
 AfterJob files job old new (Absent file) = (file ≡ 1) × IsMissing files (font_file job)
 AfterJob files job old new (ReadFault file) = file ≡ 1
 AfterJob files job old new (FileTooLong file) = (file ≡ 1) × IsTooBig files (font_file job)
@@ -138,7 +143,7 @@ WithBytes files name P = (bytes : List ℕ) × WasRead files name bytes × P byt
 
 -- what an answer says: the first cause in the order of the words, the job's read, its grammar, its form,
 -- the font's read, its checks, its form, the paragraphs and the writing
-abbrev pub Explains : Files → List (List ℕ) → Out → Out → Answer → Type 0
+abbrev pub Explains : Files → List (List ℕ) → SinkState → SinkState → Answer → Type 0
 Explains files words old new BadWords = (name : List ℕ) → IsCommand words name → ⊥
 Explains files words old new NoMemory = ⊤
 Explains files words old new (Absent file) =
@@ -159,12 +164,17 @@ Explains files words old new (LongParagraph paragraph) =
 
 -- An answer that blames the outside comes only where its count rose: the shelf's absences, excesses and
 -- faults, and the output's faults.
-abbrev pub Causes : Answer → Type 0 → Type 0 → Type 0 → Type 0 → Type 0
-Causes (Absent file) absences excesses faults out = absences
-Causes (FileTooLong file) absences excesses faults out = excesses
-Causes (ReadFault file) absences excesses faults out = faults
-Causes OutFault absences excesses faults out = out
-Causes _ absences excesses faults out = ⊤
+abbrev pub Causes : Answer → ShelfState → ShelfState → SinkState → SinkState → Type 0
+Causes (Absent file) shelf later old new = Rose shelf.absences later.absences
+Causes (FileTooLong file) shelf later old new = Rose shelf.excesses later.excesses
+Causes (ReadFault file) shelf later old new = Rose shelf.faults later.faults
+Causes OutFault shelf later old new = Rose old.faults new.faults
+Causes _ shelf later old new = ⊤
+
+-- the same, of an answer after the last read
+abbrev pub OutCauses : Answer → SinkState → SinkState → Type 0
+OutCauses OutFault old new = Rose old.faults new.faults
+OutCauses _ old new = ⊤
 
 -- how the calls of the shelf rise: once for each file up to the one at fault, else for both files
 abbrev pub ShelfCalls : Answer → ℕ → ℕ → Type 0
@@ -197,14 +207,14 @@ ShelfCallsAfterJob NoMemory before after = (calls : ℕ) × (calls ≤ 1) × Ris
 ShelfCallsAfterJob _ before after = RisesBy 1 before after
 
 -- what an answer says once the bytes of the font's file are there
-abbrev pub WithFontBytes : PlainJob → List ℕ → Out → Out → Answer → Type 0
+abbrev pub WithFontBytes : PlainJob → List ℕ → SinkState → SinkState → Answer → Type 0
 WithFontBytes job bytes old new (Font font kind word) =
-    (font ≡ 0) × ((fault : Fault) × (fault_of bytes ≡ Some fault) × (kind ≡ number_of fault.kind) × (word ≡ fault.word))
+    (font ≡ 0) × ((fault : Fault) × (fault_of bytes ≡ Some fault) × (kind ≡ fault.kind) × (word ≡ fault.word))
 WithFontBytes job bytes old new NoMemory = ⊤
 WithFontBytes job bytes old new answer = (tfm : Tfm) × IsTfm bytes tfm × AfterFont job tfm old new answer
 
 -- what an answer says once the bytes of the job's file are there
-abbrev pub WithJobBytes : Files → List ℕ → Out → Out → Answer → Type 0
+abbrev pub WithJobBytes : Files → List ℕ → SinkState → SinkState → Answer → Type 0
 WithJobBytes files bytes old new NoMemory = ⊤
 WithJobBytes files bytes old new (NotPlain file) =
     ((file ≡ 0) × IsNoPlainJob bytes) ⊎ ((job : PlainJob) × IsPlainJob bytes job × AfterJob files job old new (NotPlain file))

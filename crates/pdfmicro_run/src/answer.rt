@@ -2,9 +2,10 @@
 ghost use Rattle.std.specs.Prelude.{◌≡◌};
 ghost use Rattle.pdfmicro_run.specs.Status.{status_of};
 
-use crate::pages::Owner;
+use instance_core::Owner;
 use items::Items;
 use job_text::JobFaultKind;
+use tfm_read::TfmFaultKind;
 
 /// How a run ended. File 0 is the job, and file f + 1 is font f.
 #[derive(Clone, Copy, Debug, PartialEq, Eq)]
@@ -14,20 +15,37 @@ pub enum Answer {
     /// The words are no command.
     BadWords,
     /// The shelf has no such file.
-    Absent { file: u32 },
+    Absent {
+        file: u32,
+    },
     /// The shelf failed to read the file.
-    ReadFault { file: u32 },
+    ReadFault {
+        file: u32,
+    },
     /// The file has more than 16,777,216 bytes.
-    FileTooLong { file: u32 },
+    FileTooLong {
+        file: u32,
+    },
     /// The job's first fault, and the place in the file where it stands, in bytes.
-    Job { offset: u32, kind: JobFaultKind },
+    Job {
+        offset: u32,
+        kind: JobFaultKind,
+    },
     /// The job has no fault and isn't plain (file 0), or the font doesn't serve it: it has ligature
     /// words, or lacks a code of the job (file 1).
-    NotPlain { file: u32 },
-    /// The font's TFM file has a fault: the number of its kind, from 1 to 10, and its word.
-    Font { font: u32, kind: u8, word: u32 },
+    NotPlain {
+        file: u32,
+    },
+    /// The font's TFM file has a fault: its kind, and its word.
+    Font {
+        font: u32,
+        kind: TfmFaultKind,
+        word: u32,
+    },
     /// The first paragraph, counted from 1, that doesn't fit on one line of the width.
-    LongParagraph { paragraph: u32 },
+    LongParagraph {
+        paragraph: u32,
+    },
     /// The output failed.
     OutFault,
     /// Want of memory.

@@ -1,28 +1,28 @@
 //! The DVI file of a plain job.
 ghost use Rattle.std.specs.Prelude.{◌≡◌, ◌≤◌, ◌∷◌, [], length, IfOk, All, string_bytes};
 ghost use Rattle.std.specs.List.{AllByRecursion};
-ghost use Rattle.pdfmicro_run.specs.Dvi.{dvi};
+ghost use Rattle.dvi_write.specs.Document.{dvi};
+ghost use Rattle.dvi_write.specs.Writable.{IsWritable};
 ghost use Rattle.pdfmicro_run.specs.PlainPages.{IsPlainPage};
-ghost use Rattle.pdfmicro_run.specs.Writable.{IsWritable};
 ghost use Rattle.pdfmicro_run.specs.Galley.{IsFirstLong, sizes_of, row_of, galley};
 ghost use Rattle.pdfmicro_run.specs.GalleysReading.{IfLongAt};
 ghost use Rattle.pdfmicro_run.specs.PlainReading.{IsKept};
 ghost use Rattle.pdfmicro_run.specs.Run.{AllShort};
 ghost use Rattle.job_text.specs.Fits.{IsFileName};
 
-use crate::dvi::{DviFault, dvi_bytes};
 use crate::galleys::{GalleyRefused, pages};
-use crate::numbering::Numbering;
-use crate::pages::{FontRow, Page};
 use crate::plain_job::PlainJob;
 use crate::sizes::Sizes;
+use dvi_write::{DviFault, FontRow, dvi_bytes};
+use instance_core::Page;
 use items::Text;
 use micro_num::NoMemory;
+use renumber::Numbering;
 use std::alloc::{AllocError, Global};
 use tfm_read::Tfm;
 
 /// The greatest length of a DVI file, in bytes.
-const MOST_BYTES: u64 = 2_147_483_647;
+const MOST_DVI_BYTES: u64 = 2_147_483_647;
 
 /// A font's name as a text.
 pub fn name_text(alloc: Global, name: &[u8]) -> Result<String, AllocError>
@@ -46,11 +46,12 @@ fn row_for(alloc: Global, tfm: &Tfm, job: &PlainJob) -> Result<FontRow, AllocErr
     })
 }
 
-/// The DVI file of a plain job in a font that serves it. The pages are few enough that no file is too
-/// long.
+/// The DVI file of a plain job in a font that serves it. The pages are few enough that no file is
+/// too long.
 pub fn document(alloc: Global, tfm: &Tfm, job: &PlainJob) -> Result<Vec<u8>, GalleyRefused>
     requires { IsKept job.now }
-    ensures ok { IfOk result (λ bytes. (bytes.items ≡ galley tfm.now job.now) × AllShort tfm.now job.now) }
+    ensures ok { IfOk result (λ bytes.
+        (bytes.items ≡ galley tfm.now job.now) × AllShort tfm.now job.now) }
     ensures long { IfLongAt result (IsFirstLong (sizes_of tfm.now) job.now.paragraphs) }
 {
     let sizes = Sizes::of(alloc, tfm)?;
@@ -74,7 +75,7 @@ fn file(alloc: Global, pages: &[Page], row: FontRow) -> Result<Vec<u8>, NoMemory
     ensures { IfOk result (λ bytes. bytes.items ≡ dvi (row ∷ []) pages.now) }
 {
     let numbering = Numbering::make(alloc, pages)?;
-    match dvi_bytes(alloc, pages, &[row], &numbering, MOST_BYTES) {
+    match dvi_bytes(alloc, pages, &[row], &numbering, MOST_DVI_BYTES) {
         Ok(bytes) => Ok(bytes),
         Err(DviFault::TooLong { .. }) => unreachable!(),
         Err(DviFault::NoMemory) => Err(NoMemory),

@@ -5,8 +5,8 @@ ghost use Rattle.pdfmicro_run.specs.Galley.{glyphs_from, InMeasure, IsShort, pag
 ghost use Rattle.pdfmicro_run.specs.GalleyReading.{IfLong};
 ghost use Rattle.pdfmicro_run.specs.declared.galley.LineRefused.TheVariants.{NoMemory};
 
-use crate::pages::{Cell, Packed, Page, Placed};
 use crate::sizes::{Sizes, greatest_size, size_at};
+use instance_core::{Cell, Packed, Page, PageLine, Placed};
 use items::Items;
 use micro_num::Sp;
 use std::alloc::{AllocError, AllocFailed, Global};
@@ -44,7 +44,9 @@ impl<T: Drop> From<AllocFailed<T>> for LineRefused {
 
 /// The sum of a left edge and an advance, if it lies from 0 to the width.
 fn right_edge(x: Sp, advance: Sp, hsize: Sp) -> Option<Sp>
-    ensures { MatchOption result ((pos 0 ≤ℤ (x +ℤ advance)) → ((x +ℤ advance) ≤ℤ hsize) → ⊥) (λ right. (right ≡ x +ℤ advance) × (pos 0 ≤ℤ right) × (right ≤ℤ hsize)) }
+    ensures { MatchOption result
+        ((pos 0 ≤ℤ (x +ℤ advance)) → ((x +ℤ advance) ≤ℤ hsize) → ⊥)
+        (λ right. (right ≡ x +ℤ advance) × (pos 0 ≤ℤ right) × (right ≤ℤ hsize)) }
 {
     let right = i64::from(x) + i64::from(advance);
     if right < 0 {
@@ -60,7 +62,9 @@ fn right_edge(x: Sp, advance: Sp, hsize: Sp) -> Option<Sp>
 fn extent_of(height: Sp, depth: Sp) -> Option<Sp>
     requires height { pos 0 ≤ℤ height }
     requires depth { pos 0 ≤ℤ depth }
-    ensures { MatchOption result ((height +ℤ depth) ≤ℤ pos 1073741823 → ⊥) (λ extent. (extent ≡ height +ℤ depth) × (extent ≤ℤ pos 1073741823)) }
+    ensures { MatchOption result
+        ((height +ℤ depth) ≤ℤ pos 1073741823 → ⊥)
+        (λ extent. (extent ≡ height +ℤ depth) × (extent ≤ℤ pos 1073741823)) }
 {
     let extent = i64::from(height) + i64::from(depth);
     if extent > MOST_PLACE {
@@ -77,8 +81,10 @@ fn glyphs(
     text: &[u8],
 ) -> Result<Items<Placed>, LineRefused>
     requires { pos 0 ≤ℤ hsize }
-    ensures ok { IfOk result (λ glyphs. (glyphs ≡ glyphs_from sizes.now (pos 0) text.now) × AllByRecursion (InMeasure hsize) (glyphs_from sizes.now (pos 0) text.now)) }
-    ensures long { IfLong result (AllByRecursion (InMeasure hsize) (glyphs_from sizes.now (pos 0) text.now) → ⊥) }
+    ensures ok { IfOk result (λ glyphs. (glyphs ≡ glyphs_from sizes.now (pos 0) text.now)
+        × AllByRecursion (InMeasure hsize) (glyphs_from sizes.now (pos 0) text.now)) }
+    ensures long { IfLong result
+        (AllByRecursion (InMeasure hsize) (glyphs_from sizes.now (pos 0) text.now) → ⊥) }
 {
     let mut glyphs = Vec::with_capacity(alloc, text.len())?;
     let mut x = 0;
@@ -101,7 +107,8 @@ fn glyphs(
 /// The page of a text on a line of a width.
 pub fn page(alloc: Global, sizes: &Sizes, hsize: Sp, text: &[u8]) -> Result<Page, LineRefused>
     requires { pos 0 ≤ℤ hsize }
-    ensures ok { IfOk result (λ page. (page ≡ page_of sizes.now hsize text.now) × IsShort sizes.now hsize text.now) }
+    ensures ok { IfOk result (λ page.
+        (page ≡ page_of sizes.now hsize text.now) × IsShort sizes.now hsize text.now) }
     ensures long { IfLong result (IsShort sizes.now hsize text.now → ⊥) }
 {
     let height = greatest_size(sizes.heights.as_slice(), text);
@@ -122,9 +129,12 @@ pub fn page(alloc: Global, sizes: &Sizes, hsize: Sp, text: &[u8]) -> Result<Page
         depth,
         width: hsize,
     };
+    let placed = PageLine {
+        baseline: height,
+        line,
+    };
     Ok(Page {
-        lines: one(alloc, line)?,
-        baselines: one(alloc, height)?,
+        lines: one(alloc, placed)?,
         extent,
         width: hsize,
     })

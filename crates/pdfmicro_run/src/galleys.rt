@@ -7,9 +7,9 @@ ghost use Rattle.pdfmicro_run.specs.GalleysReading.{IfLongAt};
 ghost use Rattle.pdfmicro_run.specs.declared.galleys.GalleyRefused.TheVariants.{NoMemory};
 
 use crate::galley::{LineRefused, page};
-use crate::pages::Page;
 use crate::plain_job::PlainParagraph;
 use crate::sizes::Sizes;
+use instance_core::Page;
 use std::alloc::{AllocError, AllocFailed, Global};
 use tfm_read::Tfm;
 
@@ -60,7 +60,8 @@ fn has_codes(tfm: &Tfm, text: &[u8]) -> bool
 
 /// Whether the font has every code of the paragraphs.
 fn has_all_codes(tfm: &Tfm, paragraphs: &[PlainParagraph]) -> bool
-    ensures { IsTrue result ↔ AllByRecursion (λ paragraph. HasCodes tfm.now paragraph.text) paragraphs.now }
+    ensures { IsTrue result
+        ↔ AllByRecursion (λ paragraph. HasCodes tfm.now paragraph.text) paragraphs.now }
 {
     for paragraph in paragraphs {
         if !has_codes(tfm, paragraph.text.as_slice()) {
@@ -88,7 +89,9 @@ pub fn pages(
 ) -> Result<Vec<Page>, GalleyRefused>
     requires kept { AllByRecursion IsKeptParagraph paragraphs.now }
     requires few { length paragraphs.now ≤ 65535 }
-    ensures ok { IfOk result (λ pages. (pages.items ≡ map (page_in sizes.now) paragraphs.now) × AllByRecursion (IsShortIn sizes.now) paragraphs.now) }
+    ensures ok { IfOk result (λ pages.
+        (pages.items ≡ map (page_in sizes.now) paragraphs.now)
+        × AllByRecursion (IsShortIn sizes.now) paragraphs.now) }
     ensures long { IfLongAt result (IsFirstLong sizes.now paragraphs.now) }
 {
     let mut pages = Vec::with_capacity(alloc, paragraphs.len())?;

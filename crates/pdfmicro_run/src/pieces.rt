@@ -6,18 +6,19 @@ ghost use Rattle.pdfmicro_run.specs.Run.{Writes, WritesPart};
 use outside_io::{Failed, Sink};
 
 /// How many bytes a piece has, the last perhaps excepted.
-const PIECE: usize = 16_384;
+pub const PIECE: usize = 16_384;
 
 /// Writes the bytes in pieces of 16,384, of which the last may be shorter.
 pub fn write_pieces<O: Sink>(out: &mut O, bytes: &[u8]) -> Result<(), Failed>
-    ensures faults { O.faults out.old ≤ O.faults out.new }
-    ensures ok { OnOk result (Writes bytes.now (record { written = O.written out.old; calls = O.calls out.old }) (record { written = O.written out.new; calls = O.calls out.new })) }
-    ensures failed { OnErr result (Rose (O.faults out.old) (O.faults out.new)) }
-    ensures part { OnErr result (WritesPart bytes.now (record { written = O.written out.old; calls = O.calls out.old }) (record { written = O.written out.new; calls = O.calls out.new })) }
+    ensures faults { (O.state out.old).faults ≤ (O.state out.new).faults }
+    ensures ok { OnOk result (Writes bytes.now (O.state out.old) (O.state out.new)) }
+    ensures failed { OnErr result (Rose (O.state out.old).faults (O.state out.new).faults) }
+    ensures part { OnErr result (WritesPart bytes.now (O.state out.old) (O.state out.new)) }
 {
     let mut rest = bytes;
     while !rest.is_empty() {
         let (piece, next) = first_piece(rest);
+        // A named arm and not `?`, since a clause speaks of the sink at this error.
         match out.write(piece) {
             Ok(()) => rest = next,
             Err(failed) => return Err(failed),
@@ -28,8 +29,8 @@ pub fn write_pieces<O: Sink>(out: &mut O, bytes: &[u8]) -> Result<(), Failed>
 
 /// The first piece of the bytes, and the rest.
 fn first_piece(bytes: &[u8]) -> (&[u8], &[u8])
-    ensures piece { result.0.now ≡ take (min (length bytes.now) 16384) bytes.now }
-    ensures rest { result.1.now ≡ drop (min (length bytes.now) 16384) bytes.now }
+    ensures piece { result.0.now ≡ take (min (length bytes.now) PIECE) bytes.now }
+    ensures rest { result.1.now ≡ drop (min (length bytes.now) PIECE) bytes.now }
 {
     if bytes.len() < PIECE {
         (bytes, &bytes[bytes.len()..])

@@ -60,7 +60,9 @@ pub struct PlainJob {
 
 /// The width of the lines, if it is at least 1 sp and no other parameter was changed.
 fn width_of(params: &Params) -> Option<Sp>
-    ensures { MatchOption result ((hsize : ℤ) → params.now ≡ with_hsize hsize → pos 1 ≤ℤ hsize → ⊥) (λ hsize. (params.now ≡ with_hsize hsize) × (pos 1 ≤ℤ hsize)) }
+    ensures { MatchOption result
+        ((hsize : ℤ) → params.now ≡ with_hsize hsize → pos 1 ≤ℤ hsize → ⊥)
+        (λ hsize. (params.now ≡ with_hsize hsize) × (pos 1 ≤ℤ hsize)) }
 {
     let mut plain = Params::plain();
     plain.hsize = params.hsize;
@@ -89,7 +91,8 @@ fn is_space(part: &Part) -> bool
 
 /// The code of a character that isn't the hyphen character.
 fn code_of(hyphen: i32, part: &Part) -> Option<u8>
-    ensures { MatchOption result (EndsCodes hyphen part.now) (λ code. (part.now ≡ char_part code) × (pos code ≢ hyphen)) }
+    ensures { MatchOption result (EndsCodes hyphen part.now)
+        (λ code. (part.now ≡ char_part code) × (pos code ≢ hyphen)) }
 {
     match part {
         Part::Char { code } if i32::from(*code) != hyphen => Some(*code),
@@ -97,13 +100,16 @@ fn code_of(hyphen: i32, part: &Part) -> Option<u8>
     }
 }
 
-/// The characters at the front, up to a hyphen character or another part, and the parts behind them.
+/// The characters at the front, up to a hyphen character or another part, and the parts behind
+/// them.
 fn characters(
     alloc: Global,
     hyphen: i32,
     parts: &[PartAt],
 ) -> Result<(Items<u8>, &[PartAt]), AllocError>
-    ensures { IfOk result (λ found. (parts_of parts.now ≡ characters found.0 ++ parts_of found.1.now) × NoHyphen hyphen found.0 × EndsText hyphen (parts_of found.1.now)) }
+    ensures { IfOk result (λ found.
+        (parts_of parts.now ≡ characters found.0 ++ parts_of found.1.now)
+        × NoHyphen hyphen found.0 × EndsText hyphen (parts_of found.1.now)) }
 {
     let mut text = Vec::with_capacity(alloc, parts.len())?;
     let mut behind = parts;
@@ -130,7 +136,8 @@ fn is_ending(parts: &[PartAt]) -> bool
 /// The text that the parts are, if they are the font, characters and at most one space.
 fn text_of(alloc: Global, hyphen: i32, parts: &[PartAt]) -> Result<Items<u8>, JobRefused>
     ensures found { IfOk result (λ text. IsTextOf hyphen (parts_of parts.now) text) }
-    ensures refused { IfNotPlain result ((text : List ℕ) → IsTextOf hyphen (parts_of parts.now) text → ⊥) }
+    ensures refused { IfNotPlain result ((text : List ℕ)
+        → IsTextOf hyphen (parts_of parts.now) text → ⊥) }
 {
     let Some((first, rest)) = parts.split_first() else {
         return Err(JobRefused::NotPlain);
@@ -154,9 +161,13 @@ fn text_of(alloc: Global, hyphen: i32, parts: &[PartAt]) -> Result<Items<u8>, Jo
 /// The plain paragraph that a paragraph is.
 fn paragraph(alloc: Global, hyphen: i32, par: &Par) -> Result<PlainParagraph, JobRefused>
     ensures found { IfOk result (λ paragraph. IsPlainPar hyphen par.now paragraph) }
-    ensures refused { IfNotPlain result ((paragraph : Paragraph) → IsPlainPar hyphen par.now paragraph → ⊥) }
+    ensures refused { IfNotPlain result ((paragraph : Paragraph)
+        → IsPlainPar hyphen par.now paragraph → ⊥) }
 {
     if par.indent {
+        return Err(JobRefused::NotPlain);
+    }
+    if !par.shape.as_slice().is_empty() {
         return Err(JobRefused::NotPlain);
     }
     let Some(hsize) = width_of(&par.params) else {
@@ -172,7 +183,8 @@ fn paragraph(alloc: Global, hyphen: i32, par: &Par) -> Result<PlainParagraph, Jo
 /// The plain paragraphs that the paragraphs are.
 fn paragraphs(alloc: Global, hyphen: i32, pars: &[Par]) -> Result<Items<PlainParagraph>, JobRefused>
     ensures found { IfOk result (λ paragraphs. ArePlain hyphen pars.now paragraphs) }
-    ensures refused { IfNotPlain result ((paragraphs : List Paragraph) → ArePlain hyphen pars.now paragraphs → ⊥) }
+    ensures refused { IfNotPlain result ((paragraphs : List Paragraph)
+        → ArePlain hyphen pars.now paragraphs → ⊥) }
 {
     let mut paragraphs = Vec::with_capacity(alloc, pars.len())?;
     for par in pars {

@@ -56,7 +56,8 @@ pub fn greatest_size(sizes: &[Sp], text: &[u8]) -> Sp
 
 /// The scaled widths of a font's characters.
 fn scaled_widths(alloc: Global, tfm: &Tfm) -> Result<Items<Sp>, NoMemory>
-    ensures { IfOk result (λ sizes. sizes ≡ map (λ (c : CharInfo). scaled c.width tfm.now.design) tfm.now.chars) }
+    ensures { IfOk result (λ sizes. sizes
+        ≡ map (λ (c : CharInfo). scaled c.width tfm.now.design) tfm.now.chars) }
 {
     let mut sizes = Vec::with_capacity(alloc, 256)?;
     for info in tfm.chars.as_slice() {
@@ -67,7 +68,8 @@ fn scaled_widths(alloc: Global, tfm: &Tfm) -> Result<Items<Sp>, NoMemory>
 
 /// The scaled heights of a font's characters.
 fn scaled_heights(alloc: Global, tfm: &Tfm) -> Result<Items<Sp>, NoMemory>
-    ensures { IfOk result (λ sizes. sizes ≡ map (λ (c : CharInfo). scaled c.height tfm.now.design) tfm.now.chars) }
+    ensures { IfOk result (λ sizes. sizes
+        ≡ map (λ (c : CharInfo). scaled c.height tfm.now.design) tfm.now.chars) }
 {
     let mut sizes = Vec::with_capacity(alloc, 256)?;
     for info in tfm.chars.as_slice() {
@@ -78,7 +80,8 @@ fn scaled_heights(alloc: Global, tfm: &Tfm) -> Result<Items<Sp>, NoMemory>
 
 /// The scaled depths of a font's characters.
 fn scaled_depths(alloc: Global, tfm: &Tfm) -> Result<Items<Sp>, NoMemory>
-    ensures { IfOk result (λ sizes. sizes ≡ map (λ (c : CharInfo). scaled c.depth tfm.now.design) tfm.now.chars) }
+    ensures { IfOk result (λ sizes. sizes
+        ≡ map (λ (c : CharInfo). scaled c.depth tfm.now.design) tfm.now.chars) }
 {
     let mut sizes = Vec::with_capacity(alloc, 256)?;
     for info in tfm.chars.as_slice() {

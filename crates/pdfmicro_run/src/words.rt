@@ -5,7 +5,9 @@ ghost use Rattle.pdfmicro_run.specs.Words.{word_texts};
 
 /// The job that the words name: they are a program's name, `set` and the job's name.
 pub fn job_name(words: &[String]) -> Option<&str>
-    ensures { MatchOption result ((name : List ℕ) → IsCommand (word_texts words.now) name → ⊥) (λ name. IsCommand (word_texts words.now) name.now) }
+    ensures { let words = word_texts words.now in
+        MatchOption result ((name : List ℕ) → IsCommand words name → ⊥)
+        (λ name. IsCommand words name.now) }
 {
     if words.len() != 3 {
         return None;

@@ -76,7 +76,7 @@ pub record AreTables (bytes : List ℕ) (l : Lengths) (tables : Tables) : Type 0
   pub depths : IsTable bytes (places_of l).depths l.depths tables.depths
 
 no_char_fits : (n : ℕ) → CharFits n no_char
-no_char_fits n = record { width = zero_fits; height = zero_fits; depth = zero_fits; program = λ p e. absurd cc }
+no_char_fits n = record { width = zero_fits; height = zero_fits; depth = zero_fits; program = λ p e. absurd cc; missing = λ e. refl }
 
 -- equal sizes make equal characters
 same_char : (b : Bool) (w w' h h' d d' : ℤ) (program : Option ℕ) → w ≡ w' → h ≡ h' → d ≡ d'
@@ -87,7 +87,8 @@ same_char b w w' h h' d d' program ew eh ed = rw (ew, eh, ed) refl
 char_fits : (b : Bool) (n : ℕ) (w h d : ℤ) (program : Option ℕ) → IsFixWord w → IsFixWord h → IsFixWord d → IsPlaceIn n program
     → CharFits n (cond b no_char (record { exists = true; width = w; height = h; depth = d; program = program }))
 char_fits true n w h d program fw fh fd fp = no_char_fits n
-char_fits false n w h d program fw fh fd fp = record { width = fw; height = fh; depth = fd; program = fp }
+char_fits false n w h d program fw fh fd fp =
+    record { width = fw; height = fh; depth = fd; program = fp; missing = λ e. absurd cc }
 
 char_read : (bytes : List ℕ) → ((i : ℕ) → get_or bytes i 0 < 256) → (l : Lengths) (tables : Tables) (code : ℕ) → AreTables bytes l tables → are_within l (indices_of bytes l code) ≡ true
     → (char_by tables (indices_of bytes l code) ≡ char_of bytes l code) × CharFits l.ligs (char_by tables (indices_of bytes l code))

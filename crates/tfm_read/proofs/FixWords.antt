@@ -1,6 +1,7 @@
 -- The range of a size whose first byte is 0 or 255.
 use Rattle.std.proofs.Common.{◌≡◌, ℕ, ◌+◌, ◌*◌, ◌^◌, ◌<◌, ◌≤◌, ◌⊎◌, Bool, true, false, ◌||◌, eqb, List, [], ◌∷◌, get_or, None, ℤ, pos, negsuc, ltb, suc, ◌-◌, refl, sym, ap, subst, ◌∙◌, inl, inr, add-zero, arith, FitsSigned, to_z, of_z}
-use Rattle.std.specs.Int.{w32, cast_signed, from_be_bytes}
+use Rattle.std.specs.Int.{w32, cast_signed}
+use Rattle.byteorder.specs.Endian.{big_number}
 use Rattle.std.proofs.lemmas.Bool.{eqb-true, le-ltb}
 use Rattle.std.proofs.lemmas.Int.{ints, to_z-of_z}
 use Rattle.tfm_read.specs.Checks.{fix_check, table_check, param_check}
@@ -18,8 +19,8 @@ fix_range n lt (inr e) =
     rw test (negative_range (2 ^ 32 - suc n) (omega arith))
 
 is_fix_word : (b0 b1 b2 b3 : ℕ) → b0 < 256 → b1 < 256 → b2 < 256 → b3 < 256 → (b0 ≡ 0) ⊎ (b0 ≡ 255) → IsFixWord (signed_number (b0 ∷ b1 ∷ b2 ∷ b3 ∷ []))
-is_fix_word b0 b1 b2 b3 f0 f1 f2 f3 (inl e) = unfold signed_number in fix_range (from_be_bytes w32 (b0 ∷ b1 ∷ b2 ∷ b3 ∷ [])) (omega arith) (inl (omega arith))
-is_fix_word b0 b1 b2 b3 f0 f1 f2 f3 (inr e) = unfold signed_number in fix_range (from_be_bytes w32 (b0 ∷ b1 ∷ b2 ∷ b3 ∷ [])) (omega arith) (inr (omega arith))
+is_fix_word b0 b1 b2 b3 f0 f1 f2 f3 (inl e) = unfold signed_number in fix_range (big_number 4 (b0 ∷ b1 ∷ b2 ∷ b3 ∷ [])) (omega arith) (inl (omega arith))
+is_fix_word b0 b1 b2 b3 f0 f1 f2 f3 (inr e) = unfold signed_number in fix_range (big_number 4 (b0 ∷ b1 ∷ b2 ∷ b3 ∷ [])) (omega arith) (inr (omega arith))
 
 either_byte : (b : ℕ) → (eqb b 0 || eqb b 255) ≡ true → (b ≡ 0) ⊎ (b ≡ 255)
 either_byte b e =

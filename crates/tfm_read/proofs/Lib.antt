@@ -8,3 +8,4 @@ pub mod CharTables
 pub mod Parts
 pub mod WholeFont
 pub mod OneFont
+pub mod SampleFonts

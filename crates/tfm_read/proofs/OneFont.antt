@@ -1,5 +1,5 @@
 -- At most one font is that of a file.
-use Rattle.std.proofs.Common.{◌≡◌, ℕ, List, Some, None, Result, Ok, Err, length, All, refl, sym, ap, ◌∙◌}
+use Rattle.std.proofs.Common.{◌<◌, ◌^◌, ◌≡◌, ℕ, List, Some, None, Result, Ok, Err, length, All, refl, sym, ap, ◌∙◌}
 use Rattle.std.specs.Prelude.{IfOk}
 use Rattle.std.proofs.Props.{props}
 use mathlib.Core.HLevel.{is_prop→PathP}
@@ -32,6 +32,7 @@ same_font a b checksum design chars ligs kerns params right left = λ i. record 
   chars_fit = is_prop→PathP (λ j. All (CharFits (length (ligs j))) (chars j)) (λ j. hlevel props) a.chars_fit b.chars_fit i;
   ligs_fit = is_prop→PathP (λ j. LigsFit (chars j) (right j) (length (kerns j)) (ligs j)) (λ j. hlevel props) a.ligs_fit b.ligs_fit i;
   kerns_fit = is_prop→PathP (λ j. All IsFixWord (kerns j)) (λ j. hlevel props) a.kerns_fit b.kerns_fit i;
+  few_kerns = is_prop→PathP (λ j. length (kerns j) < 2 ^ 15) (λ j. hlevel props) a.few_kerns b.few_kerns i;
   params_fit = is_prop→PathP (λ j. AreParams (params j)) (λ j. hlevel props) a.params_fit b.params_fit i;
   left_fits = is_prop→PathP (λ j. IsPlaceIn (length (ligs j)) (left j)) (λ j. hlevel props) a.left_fits b.left_fits i;
 }

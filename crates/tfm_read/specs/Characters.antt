@@ -1,4 +1,4 @@
--- What a file says of the characters.
+-- What a file says of the characters (TFM description, "char_info").
 use Rattle.std.specs.Prelude.{◌≡◌, ℕ, ◌+◌, ◌-◌, ◌/◌, ◌%◌, ◌<◌, Bool, true, ◌&&◌, ◌==◌, nat_le, nat_lt, if◌then◌else◌, IsTrue, pos, List, All, slice_index, slice_index_or, Option, Some, None}
 use Rattle.tfm_read.specs.declared.character.CharInfo.{CharInfo}
 use Rattle.tfm_read.specs.declared.indices.Indices.{Indices}

@@ -1,4 +1,5 @@
--- The checks of a TFM file, in their order, and the first that fails.
+-- The checks of a TFM file, in their order, and the first that fails (TFM description; TeX: The Program,
+-- sections 564 to 575).
 use Rattle.std.specs.Prelude.{◌≡◌, ℕ, ◌+◌, ◌-◌, ◌*◌, ◌/◌, ◌^◌, Bool, ◌&&◌, ◌||◌, not, ◌==◌, nat_le, nat_lt, if◌then◌else◌, List, [], ◌∷◌, length, Option, Some, None, Result, Ok, Err}
 use Rattle.tfm_read.specs.declared.character.CharInfo.{CharInfo}
 use Rattle.tfm_read.specs.declared.fault.TfmFault.{TfmFault}
@@ -41,17 +42,27 @@ lengths_fault bytes =
     ∷ check (nat_le l.first_code (l.last_code + 1) && nat_le l.last_code 255) BadRange 1
     ∷ [])
 
--- the parts make up the file, no table of sizes is empty, and the words are there
-unfoldable pub parts_fault : List ℕ → Lengths → Option Fault
-parts_fault bytes l =
+-- the parts make up the file
+abbrev pub sum_check : Lengths → Option Fault
+sum_check l = check (l.file == (places_of l).end) LengthsDisagree 0
+
+-- no table of sizes is empty
+unfoldable pub tables_fault : Lengths → Option Fault
+tables_fault l =
     first_in (
-    check (l.file == (places_of l).end) LengthsDisagree 0
-    ∷ check (nat_lt 0 l.widths) EmptyTable 2
+    check (nat_lt 0 l.widths) EmptyTable 2
     ∷ check (nat_lt 0 l.heights) EmptyTable 2
     ∷ check (nat_lt 0 l.depths) EmptyTable 3
     ∷ check (nat_lt 0 l.italics) EmptyTable 3
-    ∷ check (nat_le (4 * l.file) (length bytes)) Short (length bytes / 4)
     ∷ [])
+
+-- the words of the file are there
+abbrev pub whole_check : List ℕ → Lengths → Option Fault
+whole_check bytes l = check (nat_le (4 * l.file) (length bytes)) Short (length bytes / 4)
+
+-- the file as a whole
+unfoldable pub parts_fault : List ℕ → Lengths → Option Fault
+parts_fault bytes l = first_in (sum_check l ∷ tables_fault l ∷ whole_check bytes l ∷ [])
 
 -- the design size, word 7, is at least 1pt in units of 2^-20 pt, as a signed number
 unfoldable pub design_fault : List ℕ → Option Fault

@@ -1,4 +1,4 @@
--- What stands at the first n places, and the first fault among them.
+-- What stands at the first n places, and the first fault among them: words of this project's own.
 use Rattle.std.specs.Prelude.{ℕ, zero, suc, List, [], ◌∷◌, ◌++◌, Option, None}
 use Rattle.std.specs.Option.{option_or}
 

@@ -1,4 +1,4 @@
--- The numbers of the kinds of faults.
+-- The numbers of the kinds of faults, which are this project's own.
 use Rattle.std.specs.Prelude.{ℕ}
 use Rattle.tfm_read.specs.declared.fault.TfmFaultKind.{TfmFaultKind}
 use Rattle.tfm_read.specs.declared.fault.TfmFaultKind.TheVariants.{Short, LengthsDisagree, BadRange, EmptyTable, IndexPast, NotZeroFirst, BadFix, LigPast, NoSuchChar, DesignTooSmall}

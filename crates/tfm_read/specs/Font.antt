@@ -1,4 +1,4 @@
--- What it means that bytes are a font.
+-- What it means that bytes are a font (TFM description; TeX: The Program, part 30).
 use Rattle.std.specs.Prelude.{◌≡◌, ℕ, ◌/◌, pos, List, None, Result, Err}
 use Rattle.tfm_read.specs.declared.fault.TfmFault.{TfmFault}
 use Rattle.tfm_read.specs.declared.fault.TfmFault.TheVariants.{NoMemory}
@@ -28,12 +28,6 @@ pub record IsRead (bytes : List ℕ) (l : Lengths) (tfm : Tfm) : Type 0 where
 pub record IsTfm (bytes : List ℕ) (tfm : Tfm) : Type 0 where
   pub sound : fault_of bytes ≡ None
   pub fields : IsRead bytes (lengths_of bytes) tfm
-
--- a font with no ligature words, kerns or recipes
-pub record IsPlainFont (bytes : List ℕ) : Type 0 where
-  pub ligs : (lengths_of bytes).ligs ≡ 0
-  pub kerns : (lengths_of bytes).kerns ≡ 0
-  pub recipes : (lengths_of bytes).recipes ≡ 0
 
 -- the fact, unless memory ran out
 abbrev pub UnlessNoMemory : {X : Type 0} → Result X TfmFault → Type 0 → Type 0

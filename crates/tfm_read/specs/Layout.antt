@@ -1,4 +1,4 @@
--- What the checks of the lengths give to those who read the parts.
+-- What the checks of the lengths give to those who read the parts (TFM description).
 use Rattle.std.specs.Prelude.{◌≡◌, ℕ, ◌+◌, ◌*◌, ◌/◌, ◌<◌, ◌≤◌, ℤ, pos, List, length, All}
 use Rattle.tfm_read.specs.declared.lengths.Lengths.{Lengths}
 use Rattle.tfm_read.specs.Entries.{entries}
@@ -19,6 +19,13 @@ pub record AreLengths (bytes : List ℕ) (l : Lengths) : Type 0 where
   pub header : 2 ≤ l.header
   pub codes : l.first_code ≤ l.last_code + 1
   pub last : l.last_code ≤ 255
+
+-- no table of sizes is empty
+pub record HasTables (l : Lengths) : Type 0 where
+  pub widths : 0 < l.widths
+  pub heights : 0 < l.heights
+  pub depths : 0 < l.depths
+  pub italics : 0 < l.italics
 
 -- the parts follow one another within the bytes, and no table of sizes is empty
 pub record IsLaidOut (bytes : List ℕ) (l : Lengths) : Type 0 where

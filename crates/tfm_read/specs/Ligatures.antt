@@ -1,4 +1,4 @@
--- What a file says of ligatures and kerns.
+-- What a file says of ligatures and kerns (TFM description, "lig_kern").
 use Rattle.std.specs.Prelude.{◌≡◌, ℕ, ◌+◌, ◌-◌, ◌*◌, ◌==◌, if◌then◌else◌, List, length, slice_get, Option, Some, None}
 use Rattle.tfm_read.specs.declared.ligature.LigWord.{LigWord}
 use Rattle.tfm_read.specs.declared.lengths.Lengths.{Lengths}

@@ -1,4 +1,4 @@
--- What each number of a font that was read is kept to.
+-- What each number of a font that was read is kept to (TFM description).
 use Rattle.std.specs.Prelude.{◌≡◌, ℕ, ◌+◌, ◌-◌, ◌*◌, ◌^◌, ◌<◌, ◌≤◌, ℤ, pos, ◌<ℤ◌, ◌≤ℤ◌, Bool, false, ◌||◌, ◌==◌, IsTrue, List, length, slice_index_or, Option, Some, None}
 use Rattle.micro_num.specs.Scaling.{IsFixWord}
 use Rattle.tfm_read.specs.declared.character.CharInfo.{CharInfo}
@@ -17,16 +17,18 @@ AreParams params = (k : ℕ) → 0 < k → k < 7 → IsFixWord (slice_index_or p
 abbrev pub IsPlaceIn : ℕ → Option ℕ → Type 0
 IsPlaceIn n place = (p : ℕ) → place ≡ Some p → p < n
 
--- the sizes are fix_words, and the program starts at one of the n ligature words
+-- the entry of a code that a font doesn't have
+abbrev pub no_char : CharInfo
+no_char = record { exists = false; width = pos 0; height = pos 0; depth = pos 0; program = None }
+
+-- The sizes are fix_words, and the program starts at one of the n ligature words. The entry of a code
+-- that isn't there has sizes of 0 and no program.
 pub record CharFits (n : ℕ) (c : CharInfo) : Type 0 where
   pub width : IsFixWord c.width
   pub height : IsFixWord c.height
   pub depth : IsFixWord c.depth
   pub program : IsPlaceIn n c.program
-
--- the entry of a code that a font doesn't have
-abbrev pub no_char : CharInfo
-no_char = record { exists = false; width = pos 0; height = pos 0; depth = pos 0; program = None }
+  pub missing : c.exists ≡ false → c ≡ no_char
 
 -- whether the character of a code exists
 abbrev pub exists_at : List CharInfo → ℕ → Bool

@@ -1,4 +1,4 @@
--- What a file says of sizes.
+-- What a file says of sizes, fix_words in units of 2^-20 of the design size (TFM description).
 use Rattle.std.specs.Prelude.{◌≡◌, ℕ, ◌+◌, ◌<◌, nat_lt, if◌then◌else◌, ℤ, pos, List, length, All, slice_index_or}
 use Rattle.tfm_read.specs.Entries.{entries}
 use Rattle.micro_num.specs.Scaling.{IsFixWord}

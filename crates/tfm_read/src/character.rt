@@ -1,3 +1,5 @@
+//! What a font says of one code (TFM description, "char_info").
+
 /// What a font says of one code. The sizes are fix_words: numbers in units of 2^-20 of the design
 /// size (TFM description).
 ///

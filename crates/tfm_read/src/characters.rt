@@ -44,7 +44,8 @@ fn are_within(lengths: &Lengths, indices: &Indices) -> bool
 fn indices_at(bytes: &[u8], lengths: &Lengths, place: usize, i: usize) -> Result<Indices, TfmFault>
     requires within { 4 * (place + i) + 4 ≤ length bytes.now }
     requires few { place + i < 32768 }
-    ensures { Answers result (char_check bytes.now lengths.now place i) (AreIndicesAt bytes.now lengths.now place i) }
+    ensures { Answers result (char_check bytes.now lengths.now place i)
+        (AreIndicesAt bytes.now lengths.now place i) }
 {
     let indices = indices_in(word_at(bytes, place + i));
     if !are_within(lengths, &indices) {
@@ -65,7 +66,9 @@ fn no_indices() -> [Indices; 256]
 fn read_indices(bytes: &[u8], lengths: &Lengths, place: usize) -> Result<[Indices; 256], TfmFault>
     requires laid_out { IsLaidOut bytes.now lengths.now }
     requires place { place ≡ (places_of lengths.now).chars }
-    ensures { Answers result (first_of (char_check bytes.now lengths.now place) (code_count lengths.now)) (AreIndices bytes.now lengths.now) }
+    ensures { Answers result
+        (first_of (char_check bytes.now lengths.now place) (code_count lengths.now))
+        (AreIndices bytes.now lengths.now) }
 {
     let first_code = usize::from(lengths.first_code);
     let mut indices = no_indices();
@@ -111,7 +114,8 @@ fn characters(
     tables: &Tables,
     indices: &[Indices; 256],
 ) -> Result<Items<CharInfo>, AllocError>
-    ensures { IfOk result (λ chars. chars ≡ entries (λ code. char_by tables.now (slice_index_or indices.now code no_indices)) 256) }
+    ensures { IfOk result (λ chars. chars
+        ≡ entries (λ code. char_by tables.now (slice_index_or indices.now code no_indices)) 256) }
 {
     let mut chars = Vec::with_capacity(alloc, 256)?;
     for code in 0..256 {
@@ -127,7 +131,8 @@ pub fn read_characters(
     lengths: &Lengths,
 ) -> Result<Items<CharInfo>, TfmFault>
     requires { IsLaidOut bytes.now lengths.now }
-    ensures { Answers result (characters_fault bytes.now lengths.now) (AreChars bytes.now lengths.now) }
+    ensures { Answers result (characters_fault bytes.now lengths.now)
+        (AreChars bytes.now lengths.now) }
 {
     let places = lengths.places();
     let indices = read_indices(bytes, lengths, places.chars)?;

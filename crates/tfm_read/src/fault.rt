@@ -15,7 +15,8 @@ pub enum TfmFaultKind {
     Short,
     /// The length of the file isn't the sum of the lengths of its parts.
     LengthsDisagree,
-    /// A length is 2^15 or more, the header has fewer than two words, or the codes aren't from 0 to 255.
+    /// A length is 2^15 or more, the header has fewer than two words, or the codes aren't from 0 to
+    /// 255.
     BadRange,
     /// The table of widths, heights, depths or italic corrections is empty.
     EmptyTable,
@@ -58,8 +59,8 @@ impl TfmFaultKind {
 pub enum TfmFault {
     /// Memory ran out.
     NoMemory,
-    /// The first check that failed, and the number of the word that it failed at: words of four bytes,
-    /// counted from 0. For `Short` it is the count of whole words.
+    /// The first check that failed, and the number of the word that it failed at: words of four
+    /// bytes, counted from 0. For `Short` it is the count of whole words.
     At { kind: TfmFaultKind, word: u32 },
 }
 

@@ -1,10 +1,10 @@
 //! The lengths at the head of a file, and the checks of the file as a whole.
 
 ghost use Rattle.std.specs.Prelude.{◌≡◌, ◌+◌, ◌*◌, ◌≤◌, ◌<◌, length};
-ghost use Rattle.tfm_read.specs.Checks.{Answers, lengths_fault, parts_fault, design_fault, halfword_check};
+ghost use Rattle.tfm_read.specs.Checks.{Answers, lengths_fault, parts_fault, sum_check, tables_fault, whole_check, design_fault, halfword_check};
 ghost use Rattle.tfm_read.specs.Entries.{first_of};
-ghost use Rattle.tfm_read.specs.Layout.{AreHalfwords, AreLengths, IsLaidOut, IsDesignOf};
-ghost use Rattle.tfm_read.specs.Lengths.{lengths_of};
+ghost use Rattle.tfm_read.specs.Layout.{AreHalfwords, AreLengths, HasTables, IsLaidOut, IsDesignOf};
+ghost use Rattle.tfm_read.specs.Lengths.{lengths_of, places_of};
 ghost use Rattle.tfm_read.specs.Words.{halfword_at, unsigned_at};
 
 use crate::fault::{TfmFault, TfmFaultKind, fault};
@@ -71,15 +71,24 @@ pub fn read_lengths(bytes: &[u8]) -> Result<Lengths, TfmFault>
     })
 }
 
-/// Checks that the parts make up the file, that no table of sizes is empty and that the file is whole.
-#[tactic(auto, unfolding(crate::specs::Checks::parts_fault))]
-pub fn check_parts(bytes: &[u8], lengths: &Lengths) -> Result<(), TfmFault>
-    requires { AreLengths bytes.now lengths.now }
-    ensures { Answers result (parts_fault bytes.now lengths.now) (λ _. IsLaidOut bytes.now lengths.now) }
+/// Checks that the parts make up the file.
+fn check_sum(lengths: &Lengths) -> Result<(), TfmFault>
+    requires codes { lengths.now.first_code ≤ lengths.now.last_code + 1 }
+    requires last { lengths.now.last_code ≤ 255 }
+    ensures { Answers result (sum_check lengths.now)
+        (λ _. lengths.now.file ≡ (places_of lengths.now).end) }
 {
     if usize::from(lengths.file) != lengths.places().end {
         return Err(fault(TfmFaultKind::LengthsDisagree, 0));
     }
+    Ok(())
+}
+
+/// Checks that no table of sizes is empty.
+#[tactic(auto, unfolding(crate::specs::Checks::tables_fault))]
+fn check_tables(lengths: &Lengths) -> Result<(), TfmFault>
+    ensures { Answers result (tables_fault lengths.now) (λ _. HasTables lengths.now) }
+{
     if lengths.widths == 0 {
         return Err(fault(TfmFaultKind::EmptyTable, 2));
     }
@@ -92,9 +101,31 @@ pub fn check_parts(bytes: &[u8], lengths: &Lengths) -> Result<(), TfmFault>
     if lengths.italics == 0 {
         return Err(fault(TfmFaultKind::EmptyTable, 3));
     }
+    Ok(())
+}
+
+/// Checks that the words of the file are there.
+fn check_whole(bytes: &[u8], lengths: &Lengths) -> Result<(), TfmFault>
+    ensures { Answers result (whole_check bytes.now lengths.now)
+        (λ _. 4 * lengths.now.file ≤ length bytes.now) }
+{
     if bytes.len() < 4 * usize::from(lengths.file) {
         return Err(fault(TfmFaultKind::Short, bytes.len() / 4));
     }
+    Ok(())
+}
+
+/// Checks the file as a whole: that the parts make it up, that no table of sizes is empty, and that
+/// its words are there, in this order.
+#[tactic(auto, unfolding(crate::specs::Checks::parts_fault))]
+pub fn check_parts(bytes: &[u8], lengths: &Lengths) -> Result<(), TfmFault>
+    requires { AreLengths bytes.now lengths.now }
+    ensures { Answers result (parts_fault bytes.now lengths.now)
+        (λ _. IsLaidOut bytes.now lengths.now) }
+{
+    check_sum(lengths)?;
+    check_tables(lengths)?;
+    check_whole(bytes, lengths)?;
     Ok(())
 }
 

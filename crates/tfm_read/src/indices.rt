@@ -1,8 +1,11 @@
+//! The parts of a char_info word, and the tables of sizes that they point into (TFM description,
+//! "char_info").
+
 ghost use Rattle.std.specs.Prelude.{◌≡◌};
 ghost use Rattle.tfm_read.specs.Characters.{indices_in};
 
-/// What a char_info word says of a character: the indices of its sizes in their tables, and where its
-/// lig/kern program starts.
+/// What a char_info word says of a character: the indices of its sizes in their tables, and where
+/// its lig/kern program starts.
 #[derive(Clone, Copy, Debug, PartialEq, Eq)]
 pub struct Indices {
     /// 0 where the character doesn't exist.
@@ -14,8 +17,8 @@ pub struct Indices {
 }
 
 /// What the four bytes of a char_info word say: width index (8 bits), height index (4), depth index
-/// (4), italic index (6), tag (2), remainder (8). Tag 1 means a program; the others, which mean longer
-/// characters and characters built of pieces, are stepped over.
+/// (4), italic index (6), tag (2), remainder (8). Tag 1 means a program; the others, which mean
+/// longer characters and characters built of pieces, are stepped over.
 #[tactic(auto, unfolding(crate::specs::Characters::indices_in))]
 pub fn indices_in(word: [u8; 4]) -> Indices
     ensures { result ≡ indices_in word }

@@ -1,5 +1,9 @@
-/// The lengths of a TFM file's parts, in words, and the codes of its characters: the twelve halfwords
-/// of its first 24 bytes (TFM description: lf, lh, bc, ec, nw, nh, nd, ni, nl, nk, ne, np).
+//! The lengths of a file's parts, and the places at which the parts start (TFM description; TeX:
+//! The Program, section 540).
+
+/// The lengths of a TFM file's parts, in words, and the codes of its characters: the twelve
+/// halfwords of its first 24 bytes (TFM description: lf, lh, bc, ec, nw, nh, nd, ni, nl, nk, ne,
+/// np).
 #[derive(Clone, Copy, Debug, PartialEq, Eq)]
 pub struct Lengths {
     pub file: u16,

@@ -87,7 +87,8 @@ fn checked_lig(
     requires within { 4 * (place + i) + 4 ≤ length bytes.now }
     requires few { place + i < 32768 }
     requires all { length chars.now ≡ 256 }
-    ensures { Answers result (lig_check bytes.now chars.now right kerns count place i) (IsLigAt bytes.now chars.now right kerns count place i) }
+    ensures { Answers result (lig_check bytes.now chars.now right kerns count place i)
+        (IsLigAt bytes.now chars.now right kerns count place i) }
 {
     let word = lig_at(bytes, place, i);
     match lig_fault(chars, right, kerns, count, i, word) {
@@ -130,8 +131,8 @@ pub fn read_programs(
     requires within { 4 * (place + count) ≤ length bytes.now }
     requires few { place + count < 32768 }
     requires all { length chars.now ≡ 256 }
-    ensures { Answers result
-        (first_of (lig_check bytes.now chars.now (right_of (entries (lig_of bytes.now place) count)) kerns count place) count)
+    ensures { let right = right_of (entries (lig_of bytes.now place) count) in
+        Answers result (first_of (lig_check bytes.now chars.now right kerns count place) count)
         (ArePrograms bytes.now place count chars.now kerns) }
 {
     let right = right_at(bytes, place, count);

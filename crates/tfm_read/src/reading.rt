@@ -1,3 +1,6 @@
+//! The reading of a whole file: its lengths, then its words from the first on, each check in its
+//! turn (TFM description; TeX: The Program, part 30).
+
 ghost use Rattle.std.specs.Prelude.{◌≡◌, ℕ, Some, Ok, Err, IfOk, List, length};
 ghost use Rattle.tfm_read.specs.Checks.{Answers, Fault, fault_of, words_fault};
 ghost use Rattle.tfm_read.specs.Font.{IsTfm, IsRead, UnlessNoMemory};
@@ -62,11 +65,12 @@ fn read_font(alloc: Global, bytes: &[u8]) -> Result<Tfm, TfmFault>
 
 /// The font that a TFM file spells, or the first check that the file fails.
 ///
-/// The checks are those of the TFM description. Words of the file past its stated length, recipes of
-/// built characters and lists of longer characters are stepped over. The file is read forward once.
+/// The checks are those of the TFM description. Words of the file past its stated length, recipes
+/// of built characters and lists of longer characters are stepped over. The file is read forward
+/// once.
 ///
-/// `At` comes exactly where a check fails, with the first that does and its word. `NoMemory` comes only
-/// where memory runs out.
+/// `At` comes exactly where a check fails, with the first that does and its word. `NoMemory` comes
+/// only where memory runs out.
 pub fn read_tfm(alloc: Global, bytes: &[u8]) -> Result<Tfm, TfmFault>
     // What is read is the font that the bytes are.
     ensures found { IfOk result (IsTfm bytes.now) }
@@ -90,5 +94,6 @@ pub fn one_font()
 /// A font has as many ligature words and kerns as its file tells, so a plain font has none.
 pub fn counts_are_told()
     ensures { (bytes : List ℕ) (tfm : Tfm) → IsTfm bytes tfm
-        → (length tfm.ligs ≡ (lengths_of bytes).ligs) × (length tfm.kerns ≡ (lengths_of bytes).kerns) }
+        → (length tfm.ligs ≡ (lengths_of bytes).ligs)
+        × (length tfm.kerns ≡ (lengths_of bytes).kerns) }
 {}

@@ -19,7 +19,8 @@ pub fn read_table(
 ) -> Result<(), TfmFault>
     requires within { 4 * (place + count) ≤ length bytes.now }
     requires few { place + count < 32768 }
-    ensures { Answers result (first_of (table_check bytes.now place) count) (λ _. IsTable bytes.now place count table.new) }
+    ensures { Answers result (first_of (table_check bytes.now place) count)
+        (λ _. IsTable bytes.now place count table.new) }
 {
     for i in 0..count {
         let size = table_word(bytes, place, i)?;
@@ -39,7 +40,8 @@ pub fn read_kerns(
 ) -> Result<Items<i32>, TfmFault>
     requires within { 4 * (place + count) ≤ length bytes.now }
     requires few { place + count < 32768 }
-    ensures { Answers result (first_of (fix_check bytes.now place) count) (AreKerns bytes.now place count) }
+    ensures { Answers result (first_of (fix_check bytes.now place) count)
+        (AreKerns bytes.now place count) }
 {
     let mut kerns = Items::new(alloc);
     for i in 0..count {
@@ -53,7 +55,8 @@ pub fn read_kerns(
 pub fn read_params(bytes: &[u8], place: usize, count: usize) -> Result<[i32; 7], TfmFault>
     requires within { 4 * (place + count) ≤ length bytes.now }
     requires few { place + count < 32768 }
-    ensures { Answers result (first_of (param_check bytes.now place) count) (AreParamsOf bytes.now place count) }
+    ensures { Answers result (first_of (param_check bytes.now place) count)
+        (AreParamsOf bytes.now place count) }
 {
     let mut params = [0; 7];
     for i in 0..count {

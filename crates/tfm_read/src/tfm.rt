@@ -1,4 +1,7 @@
-ghost use Rattle.std.specs.Prelude.{◌≡◌, ◌<◌, ◌↔◌, IsTrue, length, slice_index_or, All};
+//! A font's metrics: what a TFM file says, every number of it in the range that the file's checks
+//! give (TFM description; TeX: The Program, part 30).
+
+ghost use Rattle.std.specs.Prelude.{◌≡◌, ◌<◌, ◌^◌, ◌↔◌, IsTrue, length, slice_index_or, All};
 ghost use Rattle.micro_num.specs.Scaling.{IsFixWord};
 ghost use Rattle.tfm_read.specs.Ranges.{AreParams, IsDesignSize, IsPlaceIn, CharFits, LigsFit, no_char, exists_at};
 
@@ -9,9 +12,10 @@ use items::Items;
 /// A font's metrics as its TFM file has them. Sizes are fix_words, in units of 2^-20 of the design
 /// size, from -2^24 to 2^24 - 1.
 ///
-/// Every value keeps what the checks of a TFM file give: there is an entry for each of the 256 codes,
-/// each program, jump and skip leads to a ligature word, each kern number to a kern, each code of a
-/// ligature word to a character or to the right boundary, and each size lies in its range.
+/// Every value keeps what the checks of a TFM file give: there is an entry for each of the 256
+/// codes, that of a code which isn't there has sizes of 0 and no program, each program, jump and
+/// skip leads to a ligature word, each kern number to a kern, each code of a ligature word to a
+/// character or to the right boundary, and each size lies in its range.
 #[derive(Drop)]
 pub struct Tfm {
     /// The checksum, which a DVI file repeats.
@@ -22,10 +26,10 @@ pub struct Tfm {
     pub chars: Items<CharInfo>,
     /// The words of the lig/kern programs.
     pub ligs: Items<LigWord>,
-    /// The kerns, fix_words.
+    /// The kerns, fix_words, fewer than 2^15.
     pub kerns: Items<i32>,
-    /// Slant, space, stretch, shrink, x-height, quad and extra space. Missing ones are 0. All but the
-    /// slant, which is a plain ratio, are fix_words.
+    /// Slant, space, stretch, shrink, x-height, quad and extra space. Missing ones are 0. All but
+    /// the slant, which is a plain ratio, are fix_words.
     pub params: [i32; 7],
     /// The code of the right boundary character.
     pub right: Option<u8>,
@@ -36,6 +40,7 @@ pub struct Tfm {
     pub ghost chars_fit: { All (CharFits (length ligs)) chars },
     pub ghost ligs_fit: { LigsFit chars right (length kerns) ligs },
     pub ghost kerns_fit: { All IsFixWord kerns },
+    pub ghost few_kerns: { length kerns < 2 ^ 15 },
     pub ghost params_fit: { AreParams params },
     pub ghost left_fits: { IsPlaceIn (length ligs) left },
 }

@@ -1,7 +1,10 @@
-//! The numbers of a file by their places, each read by itself.
+//! The numbers of a file by their places, each read by itself: big-endian, and signed ones by two's
+//! complement (TFM description).
 
 ghost use Rattle.std.specs.Prelude.{◌≡◌, ◌+◌, ◌*◌, ◌≤◌, ◌==◌, ◌||◌, length, slice_index};
 ghost use Rattle.tfm_read.specs.Words.{word_of, unsigned_number, signed_number, halfword_at};
+
+use byteorder::{BigEndian, ByteOrder};
 
 /// The four bytes of a word.
 #[tactic(auto, unfolding(crate::specs::Words::byte_of))]
@@ -24,7 +27,7 @@ pub fn halfword_at(bytes: &[u8], n: usize) -> u16
     requires { 2 * n + 2 ≤ length bytes.now }
     ensures { result ≡ halfword_at bytes.now n }
 {
-    u16::from_be_bytes([bytes[2 * n], bytes[2 * n + 1]])
+    BigEndian::read_u16(&[bytes[2 * n], bytes[2 * n + 1]])
 }
 
 /// The number that a word is.
@@ -32,7 +35,7 @@ pub fn halfword_at(bytes: &[u8], n: usize) -> u16
 pub fn unsigned_number(word: [u8; 4]) -> u32
     ensures { result ≡ unsigned_number word }
 {
-    u32::from_be_bytes(word)
+    BigEndian::read_u32(&word)
 }
 
 /// The same as a signed number, by two's complement.
@@ -40,7 +43,7 @@ pub fn unsigned_number(word: [u8; 4]) -> u32
 pub fn signed_number(word: [u8; 4]) -> i32
     ensures { result ≡ signed_number word }
 {
-    u32::from_be_bytes(word).cast_signed()
+    BigEndian::read_u32(&word).cast_signed()
 }
 
 /// Whether a word is a size from -16 to 16 design sizes.

@@ -1,6 +1,5 @@
-use Rattle.std.proofs.Common.{rules, arith, ◌≡◌, ◌<◌, ◌∙◌, ap}
+use Rattle.std.proofs.Common.{arith, ◌∙◌, ap}
 use Rattle.font_stock.specs.Scaling.{scaled_char}
-use Rattle.std.proofs.lemmas.Int.{ints, to_z-of_z}
 use Rattle.font_stock.proofs.Characters.{char_of-sized, char_of-fits, AreScaled-push}
 use Rattle.font_stock.proofs.table.scaled_chars.Goals as goal
 

@@ -1,15 +1,16 @@
 use Rattle.std.proofs.Common.{◌≤◌, length}
-use Rattle.job_text.specs.Lexemes.{is_close}
-use Rattle.job_text.specs.Repeats.{repeat}
+use Rattle.job_reading.specs.Lexemes.{is_close}
+use Rattle.job_reading.specs.Repeats.{read_until}
+use Rattle.job_reading.specs.Rest.{left}
 use Rattle.job_text.specs.Discretionaries.{code_step}
-use Rattle.job_text.proofs.Repeats.{Reads}
+use Rattle.job_reading.proofs.Repeats.{GoesOn}
 use Rattle.job_text.proofs.discretionary.codes.Given as goal
 
 abbrev pub invariant-loop-token : goal.invariant-loop-token
 invariant-loop-token l = record {
-  value : Reads is_close (code_step l.end) l.list l.left (repeat is_close (code_step l.end) (length l.rest) l.fn.list l.rest);
-  within : length l.left ≤ length l.rest;
+  value : GoesOn is_close (code_step (length l.source)) l.list (left l.more) (read_until is_close (code_step (length l.source)) l.fn.list (left l.rest));
+  within : length (left l.more) ≤ length (left l.rest);
 }
 
 abbrev pub decreases-loop-token : goal.decreases-loop-token
-decreases-loop-token l = length l.left
+decreases-loop-token l = length (left l.more)

@@ -1,15 +1,16 @@
 use Rattle.std.proofs.Common.{◌≤◌, length}
-use Rattle.job_text.specs.Lexemes.{ends_paragraph}
+use Rattle.job_reading.specs.Lexemes.{ends_paragraph}
+use Rattle.job_reading.specs.Rest.{left}
 use Rattle.job_text.specs.Parts.{part}
-use Rattle.job_text.specs.Repeats.{repeat}
-use Rattle.job_text.proofs.Repeats.{Reads}
+use Rattle.job_reading.specs.Repeats.{read_until}
+use Rattle.job_reading.proofs.Repeats.{GoesOn}
 use Rattle.job_text.proofs.paragraph.parts.Given as goal
 
 abbrev pub invariant-loop-token : goal.invariant-loop-token
 invariant-loop-token l = record {
-  value : Reads ends_paragraph (part l.bytes l.names) l.setting l.left (repeat ends_paragraph (part l.bytes l.names) (length l.rest) l.fn.setting l.rest);
-  within : length l.left ≤ length l.rest;
+  value : GoesOn ends_paragraph (part l.source l.names) l.setting (left l.more) (read_until ends_paragraph (part l.source l.names) l.fn.setting (left l.rest));
+  within : length (left l.more) ≤ length (left l.rest);
 }
 
 abbrev pub decreases-loop-token : goal.decreases-loop-token
-decreases-loop-token l = length l.left
+decreases-loop-token l = length (left l.more)

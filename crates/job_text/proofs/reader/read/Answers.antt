@@ -9,6 +9,6 @@ returns c = record {
   state = state_of c.read.new.self;
   rest = _;
   are_tokens = c.in_ok-toks.ensures.answer;
-  reads = reads_job _ _ _ _ _ _ _ c.as_slice.ensures c.in_ok-toks-2.ensures c.as_slice-2.ensures.value c.new-state.ensures.value c.in_ok-read.ensures;
+  reads = reads_job _ _ _ _ _ _ _ c.new-source.ensures c.as_slice.ensures c.new.ensures c.new-state.ensures.value c.in_ok-read.ensures.0;
   is = sym c.job.ensures;
 }

@@ -1,16 +1,16 @@
 use Rattle.std.proofs.Common.{◌≡◌, ℕ, ◌≤◌, List, [], ◌∷◌, length, map, sym, ◌∙◌, ap, subst, arith}
 use Rattle.std.specs.List.{All, AllByRecursion}
 use Rattle.tfm_read.specs.declared.tfm.Tfm.{Tfm}
-use Rattle.pdfmicro_run.specs.declared.pages.Page.{Page}
-use Rattle.pdfmicro_run.specs.declared.pages.FontRow.{FontRow}
+use Rattle.instance_core.specs.declared.page.Page.{Page}
+use Rattle.dvi_write.specs.declared.row.FontRow.{FontRow}
 use Rattle.pdfmicro_run.specs.declared.sizes.Sizes.{Sizes}
 use Rattle.pdfmicro_run.specs.declared.plain_job.PlainParagraph.{PlainParagraph}
 use Rattle.pdfmicro_run.specs.declared.plain_job.PlainJob.{PlainJob}
-use Rattle.pdfmicro_run.specs.Dvi.{dvi}
+use Rattle.dvi_write.specs.Document.{dvi}
 use Rattle.pdfmicro_run.specs.Galley.{IsShortIn, page_in, pages_of, sizes_of, row_of, galley}
 use Rattle.pdfmicro_run.specs.PlainPages.{IsPlainPage}
 use Rattle.pdfmicro_run.specs.Run.{AllShort}
-use Rattle.pdfmicro_run.specs.Writable.{IsWritable}
+use Rattle.dvi_write.specs.Writable.{IsWritable}
 use Rattle.pdfmicro_run.proofs.PlainPagesLaws.{plain_pages, pages_writable}
 use Rattle.pdfmicro_run.proofs.document.document.Goals as goal
 

@@ -1,9 +1,9 @@
 use Rattle.std.proofs.Common.{◌≤◌, [], ◌∷◌, length, subst, arith}
-use Rattle.pdfmicro_run.specs.declared.dvi.fault.DviFault.{DviFault}
-use Rattle.pdfmicro_run.specs.declared.pages.FontRow.{FontRow}
-use Rattle.pdfmicro_run.specs.Dvi.{dvi, row_of}
+use Rattle.dvi_write.specs.declared.fault.DviFault.{DviFault}
+use Rattle.dvi_write.specs.declared.row.FontRow.{FontRow}
+use Rattle.dvi_write.specs.Document.{dvi, row_of}
 use Rattle.pdfmicro_run.specs.PlainPages.{base}
-use Rattle.pdfmicro_run.specs.Writable.{IsTooLong}
+use Rattle.dvi_write.specs.Writable.{IsTooLong}
 use Rattle.pdfmicro_run.proofs.PlainLength.{length-plain_uses, length-plain_dvi}
 use Rattle.pdfmicro_run.proofs.document.file.Goals as goal
 

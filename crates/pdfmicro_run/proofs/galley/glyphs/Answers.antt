@@ -3,7 +3,7 @@ use Rattle.std.proofs.lemmas.Int.{to_z-of_z}
 use Rattle.std.specs.Prelude.{FitsSigned}
 use Rattle.std.specs.List.{AllByRecursion}
 use Rattle.std.specs.Int.{w32, cast_signed, cast_unsigned}
-use Rattle.pdfmicro_run.specs.declared.pages.Placed.{Placed}
+use Rattle.instance_core.specs.declared.page.Placed.{Placed}
 use Rattle.pdfmicro_run.specs.PlainPages.{base}
 use Rattle.pdfmicro_run.specs.Galley.{size_at, InMeasure}
 use Rattle.pdfmicro_run.proofs.GalleyGlyphs.{glyph_in, glyph_put, all_then, in_measure, out_of_measure}

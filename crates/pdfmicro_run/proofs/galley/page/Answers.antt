@@ -22,8 +22,8 @@ returns-clause-ok c =
     to_z-of_z w32 _ depth_fits ∙ c.greatest_size-depth.ensures.value ∙ ap (λ table. greatest_size table text) c.as_slice-2.ensures in
     let P : ℤ → Type 0 = λ z. AllByRecursion (InMeasure z) (glyphs_from sizes (pos 0) text) in
     let low : cast_signed w32 (cast_unsigned w32 c.greatest_size-height.result) ≤ℤ pos 1073741823 = grind (arith, ints) in (
-      page_is sizes hsize text c.in-Ok.glyphs _ _ _ _ c.in_ok-one.field-0 c.in_ok-one-2.field-0
-          c.in_ok-one.ensures.ok c.in_ok-one-2.ensures.ok c.in-Ok.ensures.ok.0 height depth
+      page_is sizes hsize text c.in-Ok.glyphs _ _ _ _ c.in_ok-one.field-0
+          c.in_ok-one.ensures.ok c.in-Ok.ensures.ok.0 height depth
           (to_z-of_z w32 _ extent_fits ∙ c.in-Some.ensures.0) (to_z-of_z w32 _ hsize_fits),
       short_is sizes hsize text _ _ c.in-Some.extent (subst P (to_z-of_z w32 hsize hsize_fits) c.in-Ok.ensures.ok.1) height depth low c.in-Some.ensures.0 c.in-Some.ensures.1,
     )

@@ -4,7 +4,7 @@ use Rattle.std.proofs.lemmas.Int.{to_z-of_z}
 use Rattle.std.proofs.lemmas.List.{map-append, length-take}
 use Rattle.pdfmicro_run.specs.declared.galley.LineRefused.{LineRefused}
 use Rattle.pdfmicro_run.specs.declared.sizes.Sizes.{Sizes}
-use Rattle.pdfmicro_run.specs.declared.pages.Page.{Page}
+use Rattle.instance_core.specs.declared.page.Page.{Page}
 use Rattle.pdfmicro_run.specs.declared.plain_job.PlainParagraph.{PlainParagraph}
 use Rattle.pdfmicro_run.specs.Galley.{IsShort, IsShortIn, page_of, page_in}
 use Rattle.pdfmicro_run.specs.GalleyReading.{OnLong}

@@ -7,8 +7,8 @@ abbrev pub invariant-loop-rest : goal.invariant-loop-rest
 invariant-loop-rest g l =
     let sink = g.O.Sink in
     record {
-      written : Fronts l.bytes l.rest (record { written = sink.written l.fn.out; calls = sink.calls l.fn.out }) (record { written = sink.written l.out; calls = sink.calls l.out });
-      faults : sink.faults l.fn.out ≤ sink.faults l.out;
+      written : Fronts l.bytes l.rest (sink.state l.fn.out) (sink.state l.out);
+      faults : (sink.state l.fn.out).faults ≤ (sink.state l.out).faults;
     }
 
 abbrev pub decreases-loop-rest : goal.decreases-loop-rest

@@ -5,7 +5,7 @@ use Rattle.std.proofs.lemmas.Bool.{false≢true}
 use Rattle.micro_num.specs.declared.params.Params.{Params}
 use Rattle.micro_num.specs.Plain.{plain_params}
 use Rattle.pdfmicro_run.specs.PlainJob.{with_hsize}
-use Rattle.micro_num.proofs.Parameters.{same_params, params_is, params_itself}
+use Rattle.pdfmicro_run.proofs.SameParams.{same_params, params_is, params_itself}
 use Rattle.pdfmicro_run.proofs.plain_job.width_of.Goals as goal
 
 -- the plain parameters with the width at hand

@@ -1,14 +1,15 @@
 use Rattle.std.proofs.Common.{List, ℕ, refl, subst}
 use Rattle.pdfmicro_run.specs.Words.{word_texts}
-use Rattle.pdfmicro_run.specs.Run.{Files, Out, WithJobBytes}
+use Rattle.pdfmicro_run.specs.Run.{Files, WithJobBytes}
+use Rattle.outside_io.specs.States.{SinkState}
 use Rattle.pdfmicro_run.proofs.RunLaws.{explained_with_job, was_read, calls_from_job}
 use Rattle.pdfmicro_run.proofs.run.answer_of.Goals as goal
 
 pub returns-in-Ok-clause-answer : goal.returns-in-Ok-clause-answer
 returns-in-Ok-clause-answer g c =
-    let old : Out = record { written = g.O.Sink.written c.args.out.now; calls = g.O.Sink.calls c.args.out.now } in
-    let new : Out = record { written = g.O.Sink.written c.with_job.new.out; calls = g.O.Sink.calls c.with_job.new.out } in
-    let files = g.S.Shelf.files c.args.shelf.now in
+    let old : SinkState = g.O.Sink.state c.args.out.now in
+    let new : SinkState = g.O.Sink.state c.with_job.new.out in
+    let files = (g.S.Shelf.state c.args.shelf.now).files in
     let P : List ℕ → Type 0 = λ bytes. WithJobBytes files bytes old new c.with_job.result in
     explained_with_job files (word_texts c.args.words.now) c.in-Some.name.now c.in-Ok.bytes old new c.with_job.result c.in-Some.ensures
     (was_read files c.in-Some.name.now c.in-Some.name.now c.in-Ok.bytes refl c.in-Ok.ensures.within c.in-Ok.ensures.told)

@@ -1,4 +1,4 @@
-use Rattle.std.proofs.Common.{◌≡◌, ℕ, None, length, sym, ap, subst, ◌∙◌, rules, arith, FitsSigned}
+use Rattle.std.proofs.Common.{◌≡◌, ◌<◌, ◌^◌, ℕ, None, length, sym, ap, subst, ◌∙◌, rules, arith, FitsSigned}
 use Rattle.std.specs.Int.{w32}
 use Rattle.std.proofs.lemmas.Int.{to_z-of_z}
 use Rattle.std.proofs.lemmas.Result.{err_from_is_err_and}
@@ -117,12 +117,15 @@ invariant_of-result c =
     let kern_count : length c.in_ok-kerns.kerns ≡ c.args.lengths.now.kerns = ap length kerns.1.0 ∙ length-entries (size_of c.args.bytes.now (places_of c.args.lengths.now).kerns) c.args.lengths.now.kerns in
     let ligs_fit : LigsFit c.in_ok-chars.chars c.in_ok-programs.programs.right (length c.in_ok-kerns.kerns) c.in_ok-programs.programs.ligs =
     subst (λ (n : ℕ). LigsFit c.in_ok-chars.chars c.in_ok-programs.programs.right n c.in_ok-programs.programs.ligs) (sym kern_count) programs.fit in
+    let within = parts_within c.args.lengths.now in
+    let few : length c.in_ok-kerns.kerns < 2 ^ 15 = omega (arith, kern_count, within.kerns, c.requires.end) in
     record {
       every_code = ap length c.in_ok-chars.ensures.1.0 ∙ length-chars_of c.args.bytes.now c.args.lengths.now;
       design_fits = rw back c.in_ok-design.ensures.1.fits;
       chars_fit = λ k d lt. rw lig_count (c.in_ok-chars.ensures.1.1 k d lt);
       ligs_fit = ligs_fit;
       kerns_fit = kerns.1.1;
+      few_kerns = few;
       params_fit = params.1.1;
       left_fits = rw (c.left_of-left.ensures, c.as_slice-2.ensures) (left_fits c.in_ok-chars.chars c.in_ok-programs.programs.right (length c.in_ok-kerns.kerns) c.in_ok-programs.programs.ligs ligs_fit);
     }

@@ -1,4 +1,4 @@
-use Rattle.std.proofs.Common.{arith, pos, replicate}
+use Rattle.std.proofs.Common.{arith, pos}
 use Rattle.std.proofs.lemmas.Int.{ints}
 use Rattle.std.proofs.lemmas.List.Elements.{All-replicate}
 use Rattle.font_stock.specs.Ranges.{IsHang, IsFactor}

@@ -1,4 +1,4 @@
-use Rattle.std.proofs.Common.{rules, arith, ◌≡◌, ◌<◌, ◌≤◌, ◌<ℤ◌, ◌^◌, ◌∙◌, ap, sym, pos, neg_ℤ, FitsSigned, w32}
+use Rattle.std.proofs.Common.{arith, ◌≡◌, ◌<◌, ◌<ℤ◌, ◌^◌, ◌∙◌, ap, sym, pos, neg_ℤ, FitsSigned, w32}
 use Rattle.std.specs.Prelude.{unsigned_abs}
 use Rattle.std.proofs.lemmas.Int.{ints, to_z-of_z}
 use Rattle.micro_num.proofs.Signs.{minus_stored}

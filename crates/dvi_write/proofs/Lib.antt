@@ -1,0 +1,9 @@
+pub mod Grown
+pub mod NumbersAt
+pub mod WritingSteps
+pub mod Spelled
+pub mod FirstUses
+pub mod WritableCells
+pub mod WrittenCommands
+pub mod WrittenPages
+pub mod StackedLines

@@ -1,0 +1,90 @@
+-- The cells of pages that can be written: each is numbered and can be defined.
+use Rattle.std.proofs.Common.{◌≡◌, ℕ, zero, suc, ◌<◌, refl, ap, ◌∙◌, arith, Bool, true, false, not, ◌||◌, List, [], ◌∷◌, length, map, get_or}
+use Rattle.std.specs.List.{All, filter}
+use Rattle.std.proofs.lemmas.List.Elements.{All-head, All-tail, All-cons, All-nil, All-append, All-filter}
+use Rattle.instance_core.specs.declared.cell.Cell.{Cell}
+use Rattle.instance_core.specs.declared.page.Placed.{Placed}
+use Rattle.instance_core.specs.declared.page.PageLine.{PageLine}
+use Rattle.instance_core.specs.declared.page.Page.{Page}
+use Rattle.instance_core.specs.Cells.{same_cell, has_cell}
+use Rattle.instance_core.proofs.CellNumbers.{same_cell-self}
+use Rattle.renumber.specs.Uses.{cells_of_line, cells_of_lines, cells_of_pages, first_uses}
+use Rattle.renumber.proofs.InsertedCells.{has_cell-append}
+use Rattle.dvi_write.specs.declared.row.FontRow.{FontRow}
+use Rattle.dvi_write.specs.Writable.{IsDefinable, IsGlyphWritable, IsLineWritable, IsWritable, IsPuttable}
+use Rattle.dvi_write.proofs.FirstUses.{has_cell-first_uses}
+
+either_left : (a b : Bool) → a ≡ true → a || b ≡ true
+either_left a b is = ap (λ x. x || b) is
+
+either_right : (a b : Bool) → b ≡ true → a || b ≡ true
+either_right true b is = refl
+either_right false b is = is
+
+has_in_line : (glyphs : List Placed) (k : ℕ) (d : Placed) → k < length glyphs → has_cell (map (λ (g : Placed). g.cell) glyphs) (get_or glyphs k d).cell ≡ true
+has_in_line [] k d inside = absurd (omega arith)
+has_in_line (g ∷ gs) zero d inside = either_left _ _ (same_cell-self g.cell)
+has_in_line (g ∷ gs) (suc k) d inside = either_right _ _ (has_in_line gs k d (omega arith))
+
+has_in_lines : (lines : List PageLine) (k : ℕ) (d : PageLine) (c : Cell) → k < length lines
+    → has_cell (cells_of_line (get_or lines k d).line) c ≡ true → has_cell (cells_of_lines lines) c ≡ true
+has_in_lines [] k d c inside has = absurd (omega arith)
+has_in_lines (l ∷ ls) zero d c inside has =
+    has_cell-append (cells_of_line l.line) (cells_of_lines ls) c ∙ either_left _ _ has
+has_in_lines (l ∷ ls) (suc k) d c inside has =
+    has_cell-append (cells_of_line l.line) (cells_of_lines ls) c ∙ either_right _ _ (has_in_lines ls k d c (omega arith) has)
+
+has_in_pages : (pages : List Page) (k : ℕ) (d : Page) (c : Cell) → k < length pages
+    → has_cell (cells_of_lines (get_or pages k d).lines) c ≡ true → has_cell (cells_of_pages pages) c ≡ true
+has_in_pages [] k d c inside has = absurd (omega arith)
+has_in_pages (p ∷ ps) zero d c inside has =
+    has_cell-append (cells_of_lines p.lines) (cells_of_pages ps) c ∙ either_left _ _ has
+has_in_pages (p ∷ ps) (suc k) d c inside has =
+    has_cell-append (cells_of_lines p.lines) (cells_of_pages ps) c ∙ either_right _ _ (has_in_pages ps k d c (omega arith) has)
+
+pub puttable : (rows : List FontRow) (pages : List Page) (cells : List Cell) → All (IsWritable rows) pages
+    → cells ≡ first_uses (cells_of_pages pages) → All (IsPuttable rows cells) pages
+puttable rows pages cells writable numbered k page_d k_inside l line_d l_inside =
+    let page = get_or pages k page_d in
+    let line = writable k page_d k_inside l line_d l_inside in
+    record {
+      baseline = line.baseline;
+      glyphs = λ g glyph_d g_inside. record {
+        writable = line.glyphs g glyph_d g_inside;
+        numbered =
+            ap (λ cs. has_cell cs (get_or (get_or (get_or pages k page_d).lines l line_d).line.glyphs g glyph_d).cell) numbered
+            ∙ has_cell-first_uses (cells_of_pages pages) (get_or (get_or (get_or pages k page_d).lines l line_d).line.glyphs g glyph_d).cell
+            ∙ has_in_pages pages k page_d _ k_inside
+            (has_in_lines (get_or pages k page_d).lines l line_d _ l_inside
+            (has_in_line (get_or (get_or pages k page_d).lines l line_d).line.glyphs g glyph_d g_inside));
+      };
+    }
+
+definable_line : (rows : List FontRow) (glyphs : List Placed) → All (IsGlyphWritable rows) glyphs → All (IsDefinable rows) (map (λ (g : Placed). g.cell) glyphs)
+definable_line rows [] all = All-nil (IsDefinable rows)
+definable_line rows (g ∷ gs) all =
+    let first : IsGlyphWritable rows g = All-head (IsGlyphWritable rows) g gs all in
+    All-cons (IsDefinable rows) g.cell (map (λ (x : Placed). x.cell) gs) first.font (definable_line rows gs (All-tail (IsGlyphWritable rows) g gs all))
+
+definable_lines : (rows : List FontRow) (lines : List PageLine) → All (IsLineWritable rows) lines → All (IsDefinable rows) (cells_of_lines lines)
+definable_lines rows [] all = All-nil (IsDefinable rows)
+definable_lines rows (l ∷ ls) all =
+    let first : IsLineWritable rows l = All-head (IsLineWritable rows) l ls all in
+    All-append (IsDefinable rows) (cells_of_line l.line) (cells_of_lines ls) (definable_line rows l.line.glyphs first.glyphs) (definable_lines rows ls (All-tail (IsLineWritable rows) l ls all))
+
+definable_pages : (rows : List FontRow) (pages : List Page) → All (IsWritable rows) pages → All (IsDefinable rows) (cells_of_pages pages)
+definable_pages rows [] all = All-nil (IsDefinable rows)
+definable_pages rows (p ∷ ps) all =
+    All-append (IsDefinable rows) (cells_of_lines p.lines) (cells_of_pages ps) (definable_lines rows p.lines (All-head (IsWritable rows) p ps all)) (definable_pages rows ps (All-tail (IsWritable rows) p ps all))
+
+definable_uses : (rows : List FontRow) (cells : List Cell) → All (IsDefinable rows) cells → All (IsDefinable rows) (first_uses cells)
+unfolding first_uses
+definable_uses rows [] all = All-nil (IsDefinable rows)
+definable_uses rows (c ∷ cs) all =
+    All-cons (IsDefinable rows) c (filter (λ d. not (same_cell d c)) (first_uses cs)) (All-head (IsDefinable rows) c cs all)
+    (All-filter (λ d. not (same_cell d c)) (IsDefinable rows) (first_uses cs) (definable_uses rows cs (All-tail (IsDefinable rows) c cs all)))
+
+pub definable : (rows : List FontRow) (pages : List Page) (cells : List Cell) → All (IsWritable rows) pages
+    → cells ≡ first_uses (cells_of_pages pages) → All (IsDefinable rows) cells
+definable rows pages cells writable numbered =
+    rw numbered (definable_uses rows (cells_of_pages pages) (definable_pages rows pages writable))

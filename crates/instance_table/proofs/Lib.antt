@@ -1,0 +1,11 @@
+pub mod AllSteps
+pub mod Allowed
+pub mod CallLemmas
+pub mod CellSteps
+pub mod CountLemmas
+pub mod Learned
+pub mod RuleLemmas
+pub mod SatLemmas
+pub mod SeatSteps
+pub mod TotalLemmas
+pub mod WordLemmas

@@ -1,0 +1,4 @@
+pub mod Digits
+pub mod Keeping
+pub mod Repeats
+pub mod Bounds

@@ -1,0 +1,9 @@
+pub mod Faults
+pub mod Lexemes
+pub mod GrammarTokens
+pub mod Rest
+pub mod Reading
+pub mod Repeats
+pub mod Numbers
+pub mod Lengths
+pub mod Bounds

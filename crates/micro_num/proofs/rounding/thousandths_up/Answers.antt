@@ -1,0 +1,6 @@
+use Rattle.std.proofs.Common.{arith}
+use Rattle.micro_num.proofs.Expansions.{nearest_grows}
+use Rattle.micro_num.proofs.rounding.thousandths_up.Goals as goal
+
+pub returns-clause-within : goal.returns-clause-within
+returns-clause-within c = λ few. let grows = nearest_grows c.args.n c.args.k 1000 few in omega (arith, grows)
