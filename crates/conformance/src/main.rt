@@ -7,8 +7,10 @@
 mod bytes;
 mod fonts;
 mod hyphenation;
+mod items_text;
 mod jobs;
 mod ligatures;
+mod lists;
 mod numbers;
 mod tfm;
 mod tokens;
@@ -29,6 +31,7 @@ fn answer<R: Files>(rt: &R, alloc: Global, line: &str) -> Result<Option<String>,
         "hyphenation" => hyphenation::answer(alloc, left),
         "jobs" => jobs::answer(alloc, left),
         "ligatures" => ligatures::answer(rt, alloc, left),
+        "lists" => lists::answer(rt, alloc, left),
         "numbers" => numbers::answer(alloc, left),
         "tfm" => tfm::answer(rt, alloc, left),
         "tokens" => tokens::answer(alloc, left),

@@ -8,7 +8,7 @@ use std::rt::Files;
 use tfm_read::{Tfm, TfmFault, read_tfm};
 
 /// The bytes of a font's file in the current folder.
-fn font_bytes<R: Files>(rt: &R, alloc: Global, name: &str) -> io::Result<Vec<u8>> {
+pub fn font_bytes<R: Files>(rt: &R, alloc: Global, name: &str) -> io::Result<Vec<u8>> {
     let path = format!(in alloc; "{name}.tfm")?;
     let mut file = File::open(rt, path.as_str())?;
     let mut bytes = Vec::new(alloc);

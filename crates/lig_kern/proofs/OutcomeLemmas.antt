@@ -8,7 +8,7 @@ use Rattle.tfm_read.specs.declared.character.CharInfo.{CharInfo}
 use Rattle.tfm_read.specs.declared.tfm.Tfm.{Tfm}
 use Rattle.lig_kern.specs.Outcome.{missing_from, rewritten, enough, by_end, by_missing, outcome}
 use Rattle.lig_kern.specs.Rewriting.{move_at, Reached, begins, goes_on, EndsWithin, GoesPast}
-use Rattle.lig_kern.specs.Running.{start_of, limit_of, AllExist, IsFirstMissing, Answers}
+use Rattle.lig_kern.specs.Running.{start_of, limit_of, AllExist, IsFirstMissing, IsRun, Answers}
 use Rattle.lig_kern.specs.Symbols.{glyphs_of}
 use Rattle.lig_kern.specs.declared.fault.LigFault.{LigFault}
 use Rattle.lig_kern.specs.declared.fault.LigFault.TheVariants.{TooManySteps, Missing, NoMemory}
@@ -199,3 +199,15 @@ pub is-outcome : (tfm : Tfm) (codes : List ℕ) (left right : Bool) (result : Re
 is-outcome tfm codes left right result answer =
     same-answer tfm codes left right result (outcome tfm codes left right) answer
     (outcome-answers tfm codes left right) (outcome-sure tfm codes left right)
+
+-- a run that comes to its end is the outcome
+sure-ok : (result : Result (List Glyph) LigFault) (glyphs : List Glyph) → Sure result → (result ≡ Ok glyphs) ⊎ (result ≡ Err NoMemory)
+    → result ≡ Ok glyphs
+sure-ok result glyphs is (inl e) = e
+sure-ok result glyphs is (inr e) = absurd (subst Sure e is)
+
+pub run-outcome : (tfm : Tfm) (codes : List ℕ) (left right : Bool) (glyphs : List Glyph) → IsRun tfm codes left right glyphs
+    → outcome tfm codes left right ≡ Ok glyphs
+run-outcome tfm codes left right glyphs run =
+    sure-ok _ glyphs (outcome-sure tfm codes left right)
+    (only-glyphs tfm codes left right _ (outcome-answers tfm codes left right) glyphs run)

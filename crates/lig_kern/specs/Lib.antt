@@ -4,3 +4,4 @@ pub mod Rewriting
 pub mod Running
 pub mod Covering
 pub mod Outcome
+pub mod Plain

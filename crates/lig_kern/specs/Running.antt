@@ -60,6 +60,11 @@ pub record PassesLimit (tfm : Tfm) (codes : List ℕ) (left right : Bool) : Type
   pub exist : AllExist tfm.chars codes
   pub past : GoesPast tfm (start_of tfm codes left right) (limit_of codes)
 
+-- the answer of a run whose glyphs stand in a list, where it has any
+abbrev pub given : {A : Type 0} → Result A LigFault → List Glyph → Result (List Glyph) LigFault
+given (Ok made) glyphs = Ok glyphs
+given (Err fault) glyphs = Err fault
+
 -- what each answer means
 abbrev pub Answers : Tfm → List ℕ → Bool → Bool → Result (List Glyph) LigFault → Type 0
 Answers tfm codes left right (Ok glyphs) = IsRun tfm codes left right glyphs

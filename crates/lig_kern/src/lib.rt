@@ -6,20 +6,26 @@
 //! of both or of none.
 //!
 //! [`run`] gives exactly the glyphs that the rules lead to. It refuses a missing character first,
-//! and programs that don't come to an end within a bound.
+//! and programs that don't come to an end within a bound. A [`Workspace`] makes run after run in
+//! lists that are kept. [`is_plain`] tells a run on which no word acts, whose glyphs are its
+//! characters.
 #![tactic(auto)]
 
 mod fault;
 mod glyph;
+mod glyphs;
 mod laws;
 mod operation;
+mod plain;
 mod programs;
 mod rewriting;
 mod running;
 mod stack;
 mod symbols;
+mod workspace;
 
 pub use fault::LigFault;
 pub use glyph::Glyph;
 pub use laws::{ligatures_cover_what_they_replace, one_run, runs_are_lawful};
-pub use running::run;
+pub use plain::{acts_at, is_plain};
+pub use workspace::{Workspace, run};

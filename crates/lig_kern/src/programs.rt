@@ -22,7 +22,7 @@ fn entry(tfm: &Tfm, place: u16) -> usize
 }
 
 /// Where the program of a code's character starts, if it has one.
-fn character_program(tfm: &Tfm, code: u8) -> Option<usize>
+pub fn character_program(tfm: &Tfm, code: u8) -> Option<usize>
     ensures { result ≡ character_program tfm.now code }
 {
     match tfm.char_info(code).program {
@@ -57,7 +57,7 @@ fn acts_before(word: LigWord, code: u8) -> bool
 
 /// The word of the program from a place on that acts before a code. Each skip leads on, so a walk
 /// looks at a word once at most.
-fn walk(words: &[LigWord], start: usize, code: u8) -> Option<LigWord>
+pub fn walk(words: &[LigWord], start: usize, code: u8) -> Option<LigWord>
     ensures { result ≡ walk code start words.now }
 {
     let mut place = start;

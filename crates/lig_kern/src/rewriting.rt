@@ -6,20 +6,19 @@ ghost use Rattle.std.specs.Prelude.{◌≡◌, ◌≤◌, [], ◌∷◌, ◌++�
 ghost use Rattle.lig_kern.specs.Rewriting.{ligature_between, kept, move_at, puts_kern, puts_ligature, move_by};
 ghost use Rattle.lig_kern.specs.Symbols.{glyphs_of};
 
-use crate::glyph::Glyph;
+use crate::glyphs::Glyphs;
 use crate::operation::Operation;
 use crate::programs::{acting_word, kern_of};
 use crate::stack::Stack;
 use crate::symbols::{Symbol, SymbolKind};
-use items::Items;
 use micro_num::NoMemory;
-use std::alloc::Global;
+use std::alloc::{AllocError, Global};
 use tfm_read::{LigWord, Tfm};
 
 /// A run at some step: the glyphs of the symbols before the cursor, and the symbols from it on.
 #[derive(Drop)]
 pub struct Rewriting {
-    pub done: Items<Glyph>,
+    pub done: Glyphs,
     pub ahead: Stack,
 }
 
@@ -38,6 +37,24 @@ fn ligature_between(op: Operation, code: u8, current: Symbol, next: Symbol) -> S
 }
 
 impl Rewriting {
+    /// A run of nothing, at its end. It takes no memory.
+    pub fn new(alloc: Global) -> Rewriting
+        ensures { result.done ≡ [] }
+    {
+        Rewriting {
+            done: Glyphs::new(alloc),
+            ahead: Stack::new(alloc),
+        }
+    }
+
+    /// Leaves no glyphs and no symbols, and room for so many symbols.
+    pub fn clear_for(&mut self, room: usize) -> Result<(), AllocError>
+        ensures { OnOk result ((self.new.done ≡ []) × (self.new.ahead ≡ [])) }
+    {
+        self.done.clear();
+        self.ahead.clear_for(room)
+    }
+
     /// Moves the cursor over a symbol.
     fn pass(&mut self, symbol: Symbol) -> Result<(), NoMemory>
         ensures done { OnOk result (self.new.done ≡ self.old.done ++ glyphs_of (symbol ∷ [])) }

@@ -1,21 +1,15 @@
 //! A run from its codes to its glyphs: the list that it starts as, which is rewritten to its end or
 //! to the limit of words that act (TFM description, "lig_kern"; TeX: The Program, sections 1032 to
-//! 1040).
+//! 1040). What an earlier run left in the lists is taken out first, and their memory is used again.
 
-ghost use Rattle.std.specs.Prelude.{◌≡◌, ℕ, ◌^◌, ◌<◌, ◌⊎◌, [], length, List, Ok, Err, MatchOption, IfOk, OnOk};
-ghost use Rattle.lig_kern.specs.declared.glyph.Glyph.{Glyph};
-ghost use Rattle.lig_kern.specs.Covering.{Lawful, characters};
-ghost use Rattle.lig_kern.specs.Outcome.{outcome};
-ghost use Rattle.lig_kern.specs.Running.{left_symbols, right_symbols, code_symbols, start_of, AllExist, IsFirstMissing, IsRun, PassesLimit, Answers, ComesTo};
+ghost use Rattle.std.specs.Prelude.{◌≡◌, ℕ, ◌^◌, ◌<◌, [], length, Err, MatchOption, OnOk};
+ghost use Rattle.lig_kern.specs.Running.{left_symbols, right_symbols, code_symbols, start_of, AllExist, IsFirstMissing, Answers, ComesTo, given};
 
 use crate::fault::LigFault;
-use crate::glyph::Glyph;
 use crate::rewriting::Rewriting;
 use crate::stack::Stack;
 use crate::symbols::{Symbol, SymbolKind};
-use items::Items;
 use micro_num::NoMemory;
-use std::alloc::Global;
 use tfm_read::Tfm;
 
 /// The number of the first code for which the font has no character.
@@ -86,33 +80,30 @@ fn push_codes(symbols: &mut Stack, codes: &[u8]) -> Result<(), NoMemory>
     Ok(())
 }
 
-/// The list that a run starts as.
-fn start_of(
-    alloc: Global,
+/// Makes the list that a run starts as, with the cursor at its head.
+fn start(
+    state: &mut Rewriting,
     tfm: &Tfm,
     codes: &[u8],
     left: bool,
     right: bool,
-) -> Result<Stack, NoMemory>
+) -> Result<(), NoMemory>
     requires { length codes.now < 2 ^ 20 }
-    ensures { IfOk result (λ symbols. symbols ≡ start_of tfm.now codes.now left right) }
+    ensures done { OnOk result (state.new.done ≡ []) }
+    ensures ahead { OnOk result (state.new.ahead ≡ start_of tfm.now codes.now left right) }
 {
-    let mut symbols = Stack::with_room(alloc, codes.len() + 2)?;
-    push_right(&mut symbols, tfm, right, codes.len() as u32)?;
-    push_codes(&mut symbols, codes)?;
-    push_left(&mut symbols, tfm, left)?;
-    Ok(symbols)
+    state.clear_for(codes.len() + 2)?;
+    push_right(&mut state.ahead, tfm, right, codes.len() as u32)?;
+    push_codes(&mut state.ahead, codes)?;
+    push_left(&mut state.ahead, tfm, left)
 }
 
-/// Rewrites a list to its end, unless more words act than the limit.
-fn rewrite(alloc: Global, tfm: &Tfm, start: Stack, limit: usize) -> Result<Items<Glyph>, LigFault>
-    requires { limit < 2 ^ 32 }
-    ensures { ComesTo tfm.now start limit result }
+/// Rewrites a list to its end, unless more words act than the limit. The cursor is at its head.
+fn rewrite(state: &mut Rewriting, tfm: &Tfm, limit: usize) -> Result<(), LigFault>
+    requires few { limit < 2 ^ 32 }
+    requires head { state.old.done ≡ [] }
+    ensures { ComesTo tfm.now state.old.ahead limit (given result state.new.done) }
 {
-    let mut state = Rewriting {
-        done: Items::new(alloc),
-        ahead: start,
-    };
     let mut acted = 0usize;
     while let Some(current) = state.ahead.pop() {
         acted += state.step(tfm, current)?;
@@ -120,45 +111,27 @@ fn rewrite(alloc: Global, tfm: &Tfm, start: Stack, limit: usize) -> Result<Items
             return Err(LigFault::TooManySteps);
         }
     }
-    Ok(state.done)
+    Ok(())
 }
 
-/// The glyphs of a run of fewer than 2^20 codes, between the boundaries that are asked for and that
-/// the font has.
-///
-/// Refused is a code for which the font has no character, the first such one and before all else,
-/// and a run on which more than 256 (n + 2) ligature words would act.
-pub fn run(
-    alloc: Global,
+/// Makes the glyphs of a run of fewer than 2^20 codes.
+pub fn run_in(
+    state: &mut Rewriting,
     tfm: &Tfm,
     codes: &[u8],
     left: bool,
     right: bool,
-) -> Result<Items<Glyph>, LigFault>
+) -> Result<(), LigFault>
     requires { length codes.now < 2 ^ 20 }
-
-    // Each answer means what it says, and no other answer would do but want of memory.
-    ensures answer { Answers tfm.now codes.now left right result }
+    ensures answer { Answers tfm.now codes.now left right (given result state.new.done) }
     ensures missing { (index : ℕ) → IsFirstMissing tfm.now.chars codes.now index
-        → result ≡ Err (LigFault.Missing index) }
-    ensures glyphs { (glyphs : List Glyph) → IsRun tfm.now codes.now left right glyphs
-        → (result ≡ Ok glyphs) ⊎ (result ≡ Err LigFault.NoMemory) }
-    ensures too_many { PassesLimit tfm.now codes.now left right
-        → (result ≡ Err LigFault.TooManySteps) ⊎ (result ≡ Err LigFault.NoMemory) }
-    // The same as a function that computes.
-    ensures outcome { (result ≡ outcome tfm.now codes.now left right)
-        ⊎ (result ≡ Err LigFault.NoMemory) }
-
-    // What holds of the glyphs of each run.
-    ensures lawful { IfOk result (Lawful tfm.now codes.now) }
-    ensures plain { length tfm.now.ligs ≡ 0 → AllExist tfm.now.chars codes.now
-        → (result ≡ Ok (characters 0 codes.now)) ⊎ (result ≡ Err LigFault.NoMemory) }
+        → given result state.new.done ≡ Err (LigFault.Missing index) }
 {
     match first_missing(tfm, codes) {
         Some(index) => Err(LigFault::Missing { index }),
         None => {
-            let start = start_of(alloc, tfm, codes, left, right)?;
-            rewrite(alloc, tfm, start, 256 * (codes.len() + 2))
+            start(state, tfm, codes, left, right)?;
+            rewrite(state, tfm, 256 * (codes.len() + 2))
         }
     }
 }

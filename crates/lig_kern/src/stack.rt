@@ -1,6 +1,6 @@
 //! The symbols from the cursor on, as a stack.
 
-ghost use Rattle.std.specs.Prelude.{◌≡◌, [], ◌∷◌, MatchOption, IfOk, OnOk};
+ghost use Rattle.std.specs.Prelude.{◌≡◌, [], ◌∷◌, MatchOption, OnOk};
 
 use crate::symbols::Symbol;
 use std::alloc::{AllocError, AllocFailed, Global};
@@ -23,12 +23,21 @@ impl Model for Stack {
 }
 
 impl Stack {
-    /// No symbols, with room for so many.
-    pub fn with_room(alloc: Global, room: usize) -> Result<Stack, AllocError>
-        ensures { IfOk result (λ symbols. symbols ≡ []) }
+    /// No symbols. It takes no memory.
+    pub fn new(alloc: Global) -> Stack
+        ensures { result ≡ [] }
     {
-        let symbols = Vec::with_capacity(alloc, room)?;
-        Ok(Stack { symbols })
+        Stack {
+            symbols: Vec::new(alloc),
+        }
+    }
+
+    /// Takes all symbols out, and makes room for so many where it isn't there.
+    pub fn clear_for(&mut self, room: usize) -> Result<(), AllocError>
+        ensures { OnOk result (self.new ≡ []) }
+    {
+        self.symbols.clear();
+        self.symbols.reserve(room)
     }
 
     /// Puts a symbol before the others.

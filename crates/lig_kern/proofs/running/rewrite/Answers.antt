@@ -6,7 +6,7 @@ use Rattle.lig_kern.proofs.StepLemmas.{reached-on, glyphs-on}
 use Rattle.lig_kern.proofs.running.rewrite.Goals as goal
 
 pub loop-current-init : goal.loop-current-init
-loop-current-init c = record { within = omega arith; reached = ([], begins, c.new.ensures) }
+loop-current-init c = record { within = omega arith; reached = ([], begins, c.requires.head) }
 
 pub loop-current-preserved : goal.loop-current-preserved
 loop-current-preserved c =
@@ -19,7 +19,7 @@ loop-current-preserved c =
       within = c.if-acted-limit.false;
       reached = (
         before ++ passed,
-        reached-on tfm c.args.start c.loop-current.acted before c.loop-current.state.ahead current rest _ _ r
+        reached-on tfm c.args.state.now.ahead c.loop-current.acted before c.loop-current.state.ahead current rest _ _ r
             c.in-Some.ensures c.in_ok-acted.ensures.acts c.in_ok-acted.ensures.ahead,
         glyphs-on c.loop-current.state.done c.step.new.self.done before passed gives c.in_ok-acted.ensures.done,
       );
@@ -44,7 +44,7 @@ returns-then-acted-limit c =
       acted = c.loop-current.acted + c.in_ok-acted.field-0;
       before = before ++ (move_at tfm current rest).passed;
       ahead = c.step.new.self.ahead;
-      comes = reached-on tfm c.args.start c.loop-current.acted before c.loop-current.state.ahead current rest _ _ r
+      comes = reached-on tfm c.args.state.now.ahead c.loop-current.acted before c.loop-current.state.ahead current rest _ _ r
           c.in-Some.ensures c.in_ok-acted.ensures.acts c.in_ok-acted.ensures.ahead;
       past = c.if-acted-limit.true;
     }

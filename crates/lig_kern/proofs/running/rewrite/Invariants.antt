@@ -8,7 +8,7 @@ use Rattle.lig_kern.proofs.running.rewrite.Given as goal
 abbrev pub invariant-loop-current : goal.invariant-loop-current
 invariant-loop-current l = record {
   within : l.acted ≤ l.limit;
-  reached : (before : List Symbol) × Reached l.tfm l.fn.start l.acted before l.state.ahead
+  reached : (before : List Symbol) × Reached l.tfm l.fn.state.ahead l.acted before l.state.ahead
       × (l.state.done ≡ glyphs_of before);
 }
 

@@ -1,0 +1,8 @@
+pub mod Parts
+pub mod Spaces
+pub mod Runs
+pub mod Given
+pub mod Counts
+pub mod Mixing
+pub mod Paragraph
+pub mod Within
