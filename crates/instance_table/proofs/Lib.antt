@@ -1,9 +1,13 @@
 pub mod AllSteps
 pub mod Allowed
+pub mod AloneLemmas
 pub mod CallLemmas
+pub mod CellOrder
 pub mod CellSteps
+pub mod CloseLemmas
 pub mod CountLemmas
 pub mod Learned
+pub mod OwnerLemmas
 pub mod RuleLemmas
 pub mod SatLemmas
 pub mod SeatSteps

@@ -10,6 +10,7 @@
 #![tactic(auto)]
 
 mod answers;
+mod closing;
 mod joining;
 mod laws;
 mod rule;
@@ -19,6 +20,7 @@ mod view;
 mod words;
 
 pub use answers::{Claim, Seen};
+pub use closing::{CloseRefused, Closed};
 pub use laws::the_rule_holds_between_any_two_steps;
 pub use seat::Seat;
 pub use table::InstanceTable;
