@@ -1,46 +1,16 @@
 -- The first uses of cells, and the numbers of fonts: those defined are those of the glyphs before.
-use Rattle.std.proofs.Common.{◌≡◌, ℕ, suc, ◌+◌, refl, ap, sym, ◌∙◌, arith, Bool, true, false, cond, not, ◌||◌, nat_lt, List, [], ◌∷◌, ◌++◌, length, Option, Some}
-use Rattle.std.specs.List.{filter, last_or}
+use Rattle.std.proofs.Common.{◌≡◌, ℕ, suc, ◌+◌, refl, ap, ◌∙◌, arith, Bool, true, false, cond, not, ◌||◌, nat_lt, List, [], ◌∷◌, ◌++◌, length, Option, Some}
+use Rattle.std.specs.List.{last_or}
 use Rattle.std.proofs.lemmas.Bool.Decides.{nat_tests}
 use Rattle.std.proofs.lemmas.List.{append-nil}
 use Rattle.instance_core.specs.declared.cell.Cell.{Cell}
 use Rattle.instance_core.specs.Cells.{same_cell, has_cell}
-use Rattle.instance_core.proofs.CellNumbers.{same_cell-is, same_cell-self}
+use Rattle.instance_core.proofs.CellNumbers.{same_cell-self}
 use Rattle.renumber.specs.Uses.{first_uses}
 use Rattle.renumber.proofs.InsertedCells.{news, first_uses-append}
+use Rattle.renumber.proofs.UsedCells.{has_cell-first_uses}
 use Rattle.dvi_write.specs.Document.{number_at}
 use Rattle.dvi_write.proofs.NumbersAt.{number_at-cons}
-
--- a filter that passes a cell keeps it where the list has it
-has_cell-cond : (b : Bool) (x : Cell) (xs : List Cell) (c : Cell)
-    → has_cell (cond b (x ∷ xs) xs) c ≡ cond b (same_cell c x || has_cell xs c) (has_cell xs c)
-has_cell-cond true x xs c = refl
-has_cell-cond false x xs c = refl
-
-pub has_cell-kept : (p : Cell → Bool) (xs : List Cell) (c : Cell) → p c ≡ true → has_cell (filter p xs) c ≡ has_cell xs c
-has_cell-kept p [] c passes = refl
-has_cell-kept p (x ∷ xs) c passes =
-    has_cell-cond (p x) x (filter p xs) c
-    ∙ by_test (p x) (same_cell c x) (has_cell (filter p xs) c) (has_cell xs c)
-    (λ same. sym (ap p (same_cell-is c x same)) ∙ passes) (has_cell-kept p xs c passes)
-  where
-    by_test : (b s kept all : Bool) → (s ≡ true → b ≡ true) → kept ≡ all → cond b (s || kept) kept ≡ s || all
-    by_test true s kept all same rest = ap (λ h. s || h) rest
-    by_test false true kept all same rest = let never : false ≡ true = same refl in absurd (cc)
-    by_test false false kept all same rest = rest
-
--- the first uses of a list have its cells
-pub has_cell-first_uses : (cells : List Cell) (c : Cell) → has_cell (first_uses cells) c ≡ has_cell cells c
-unfolding first_uses
-has_cell-first_uses [] c = refl
-has_cell-first_uses (x ∷ xs) c =
-    by_test (same_cell c x) refl (has_cell-first_uses xs c)
-  where
-    by_test : (s : Bool) → same_cell c x ≡ s → has_cell (first_uses xs) c ≡ has_cell xs c
-        → same_cell c x || has_cell (filter (λ d. not (same_cell d x)) (first_uses xs)) c ≡ same_cell c x || has_cell xs c
-    by_test true same rest = ap (λ s. s || has_cell (filter (λ d. not (same_cell d x)) (first_uses xs)) c) same ∙ sym (ap (λ s. s || has_cell xs c) same)
-    by_test false other rest =
-        ap (λ h. same_cell c x || h) (has_cell-kept (λ d. not (same_cell d x)) (first_uses xs) c (ap not other) ∙ rest)
 
 -- a number is below the count of a list's front where the front has the cell
 pub number_at-front : (xs ys : List Cell) (c : Cell) → nat_lt (number_at (xs ++ ys) c) (length xs) ≡ has_cell xs c

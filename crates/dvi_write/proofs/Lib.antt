@@ -4,6 +4,7 @@ pub mod WritingSteps
 pub mod Spelled
 pub mod FirstUses
 pub mod WritableCells
+pub mod Names
 pub mod WrittenCommands
 pub mod WrittenPages
 pub mod StackedLines

@@ -1,18 +1,17 @@
 -- The cells of pages that can be written: each is numbered and can be defined.
-use Rattle.std.proofs.Common.{◌≡◌, ℕ, zero, suc, ◌<◌, refl, ap, ◌∙◌, arith, Bool, true, false, not, ◌||◌, List, [], ◌∷◌, length, map, get_or}
-use Rattle.std.specs.List.{All, filter}
-use Rattle.std.proofs.lemmas.List.Elements.{All-head, All-tail, All-cons, All-nil, All-append, All-filter}
+use Rattle.std.proofs.Common.{◌≡◌, ℕ, zero, suc, ◌<◌, refl, ap, ◌∙◌, arith, Bool, true, false, ◌||◌, List, [], ◌∷◌, length, map, get_or}
+use Rattle.std.specs.List.{All}
 use Rattle.instance_core.specs.declared.cell.Cell.{Cell}
 use Rattle.instance_core.specs.declared.page.Placed.{Placed}
 use Rattle.instance_core.specs.declared.page.PageLine.{PageLine}
 use Rattle.instance_core.specs.declared.page.Page.{Page}
-use Rattle.instance_core.specs.Cells.{same_cell, has_cell}
+use Rattle.instance_core.specs.Cells.{has_cell}
 use Rattle.instance_core.proofs.CellNumbers.{same_cell-self}
 use Rattle.renumber.specs.Uses.{cells_of_line, cells_of_lines, cells_of_pages, first_uses}
 use Rattle.renumber.proofs.InsertedCells.{has_cell-append}
+use Rattle.renumber.proofs.UsedCells.{has_cell-first_uses, all_of_pages, all_of_first_uses}
 use Rattle.dvi_write.specs.declared.row.FontRow.{FontRow}
-use Rattle.dvi_write.specs.Writable.{IsDefinable, IsGlyphWritable, IsLineWritable, IsWritable, IsPuttable}
-use Rattle.dvi_write.proofs.FirstUses.{has_cell-first_uses}
+use Rattle.dvi_write.specs.Writable.{IsDefinable, IsWritable, IsPuttable}
 
 either_left : (a b : Bool) → a ≡ true → a || b ≡ true
 either_left a b is = ap (λ x. x || b) is
@@ -60,31 +59,12 @@ puttable rows pages cells writable numbered k page_d k_inside l line_d l_inside 
       };
     }
 
-definable_line : (rows : List FontRow) (glyphs : List Placed) → All (IsGlyphWritable rows) glyphs → All (IsDefinable rows) (map (λ (g : Placed). g.cell) glyphs)
-definable_line rows [] all = All-nil (IsDefinable rows)
-definable_line rows (g ∷ gs) all =
-    let first : IsGlyphWritable rows g = All-head (IsGlyphWritable rows) g gs all in
-    All-cons (IsDefinable rows) g.cell (map (λ (x : Placed). x.cell) gs) first.font (definable_line rows gs (All-tail (IsGlyphWritable rows) g gs all))
-
-definable_lines : (rows : List FontRow) (lines : List PageLine) → All (IsLineWritable rows) lines → All (IsDefinable rows) (cells_of_lines lines)
-definable_lines rows [] all = All-nil (IsDefinable rows)
-definable_lines rows (l ∷ ls) all =
-    let first : IsLineWritable rows l = All-head (IsLineWritable rows) l ls all in
-    All-append (IsDefinable rows) (cells_of_line l.line) (cells_of_lines ls) (definable_line rows l.line.glyphs first.glyphs) (definable_lines rows ls (All-tail (IsLineWritable rows) l ls all))
-
-definable_pages : (rows : List FontRow) (pages : List Page) → All (IsWritable rows) pages → All (IsDefinable rows) (cells_of_pages pages)
-definable_pages rows [] all = All-nil (IsDefinable rows)
-definable_pages rows (p ∷ ps) all =
-    All-append (IsDefinable rows) (cells_of_lines p.lines) (cells_of_pages ps) (definable_lines rows p.lines (All-head (IsWritable rows) p ps all)) (definable_pages rows ps (All-tail (IsWritable rows) p ps all))
-
-definable_uses : (rows : List FontRow) (cells : List Cell) → All (IsDefinable rows) cells → All (IsDefinable rows) (first_uses cells)
-unfolding first_uses
-definable_uses rows [] all = All-nil (IsDefinable rows)
-definable_uses rows (c ∷ cs) all =
-    All-cons (IsDefinable rows) c (filter (λ d. not (same_cell d c)) (first_uses cs)) (All-head (IsDefinable rows) c cs all)
-    (All-filter (λ d. not (same_cell d c)) (IsDefinable rows) (first_uses cs) (definable_uses rows cs (All-tail (IsDefinable rows) c cs all)))
-
 pub definable : (rows : List FontRow) (pages : List Page) (cells : List Cell) → All (IsWritable rows) pages
     → cells ≡ first_uses (cells_of_pages pages) → All (IsDefinable rows) cells
 definable rows pages cells writable numbered =
-    rw numbered (definable_uses rows (cells_of_pages pages) (definable_pages rows pages writable))
+    rw numbered (
+    all_of_first_uses (IsDefinable rows) (cells_of_pages pages) (
+    all_of_pages (IsDefinable rows) pages (λ k page_d k_inside l line_d l_inside g glyph_d g_inside.
+    ((writable k page_d k_inside l line_d l_inside).glyphs g glyph_d g_inside).font)
+    )
+    )

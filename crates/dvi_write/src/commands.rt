@@ -1,5 +1,5 @@
 //! The commands of a DVI file, each with the number that it carries.
-ghost use Rattle.std.specs.Prelude.{◌≡◌, ◌<◌, ◌+◌, OnOk};
+ghost use Rattle.std.specs.Prelude.{◌≡◌, ◌<◌, ◌+◌, OnOk, unsigned_abs};
 ghost use Rattle.byteorder.specs.Endian.{big_bytes};
 ghost use Rattle.dvi_write.specs.Output.{grown};
 ghost use Rattle.dvi_write.specs.Commands.{spell, spell_all, pointer, signed_bytes};
@@ -13,14 +13,25 @@ use byteorder::{BigEndian, ByteOrder};
 use micro_num::{NoMemory, Sp};
 
 /// Puts a move right: nothing for 0, else the command for as few bytes as the distance needs.
-#[tactic(auto, using(crate::proofs::Grown::grown_nothing), unfolding(crate::specs::Commands::spell, crate::specs::Commands::spell_all, crate::specs::Document::right))]
+#[tactic(auto, using(crate::proofs::Grown::grown_nothing), unfolding(crate::specs::Commands::spell_all, crate::specs::Document::right))]
 pub(crate) fn put_right(out: &mut Output, distance: Sp) -> Result<(), NoMemory>
     ensures { OnOk result (out.new ≡ grown out.old (spell_all (right distance))) }
 {
-    let size = distance.unsigned_abs();
-    if size == 0 {
-        return Ok(());
+    if distance.unsigned_abs() == 0 {
+        Ok(())
+    } else {
+        put_move_right(out, distance)
     }
+}
+
+/// Puts a move right that isn't 0. It is rare, so it stands apart from the loop over glyphs.
+#[inline(never)]
+#[tactic(auto, unfolding(crate::specs::Commands::spell, crate::specs::Commands::spell_all, crate::specs::Document::right))]
+fn put_move_right(out: &mut Output, distance: Sp) -> Result<(), NoMemory>
+    requires { 0 < unsigned_abs distance }
+    ensures { OnOk result (out.new ≡ grown out.old (spell_all (right distance))) }
+{
+    let size = distance.unsigned_abs();
     let mut number = [0; 4];
     BigEndian::write_i32(&mut number, distance);
     let [high, upper, lower, low] = number;

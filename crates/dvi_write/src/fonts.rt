@@ -1,5 +1,5 @@
 //! The fonts of a DVI file: their definitions and selections.
-ghost use Rattle.std.specs.Prelude.{◌≡◌, ◌<◌, ◌++◌, ◌∷◌, ◌≤◌, length, OnOk, true};
+ghost use Rattle.std.specs.Prelude.{◌≡◌, ◌<◌, ◌++◌, ◌∷◌, ◌≤◌, length, OnOk, true, false};
 ghost use Rattle.instance_core.specs.Cells.{has_cell};
 ghost use Rattle.dvi_write.specs.Commands.{spell};
 ghost use Rattle.dvi_write.specs.Document.{define, definition_head, row_sizes, name_bytes, is_selected, number_at, step_suffix};
@@ -118,7 +118,7 @@ pub(crate) fn put_definition(
 }
 
 /// Puts the font of a glyph, where it isn't the one that is selected.
-#[tactic(auto, using(crate::proofs::Grown::grown_twice, crate::proofs::Grown::grown_nothing), unfolding(crate::specs::Writing::font_bytes, crate::specs::Writing::font_after))]
+#[tactic(auto, using(crate::proofs::Grown::grown_nothing), unfolding(crate::specs::Writing::font_bytes, crate::specs::Writing::font_after))]
 pub(crate) fn put_font(
     out: &mut Output,
     rows: &[FontRow],
@@ -133,8 +133,29 @@ pub(crate) fn put_font(
     ensures after { OnOk result (fonts.new ≡ font_after numbering.now fonts.old cell) }
 {
     if fonts.is_selected(cell) {
-        return Ok(());
+        Ok(())
+    } else {
+        put_other_font(out, rows, numbering, fonts, cell)
     }
+}
+
+/// Puts a font that isn't selected. It is rare, so it stands apart from the loop over glyphs.
+#[inline(never)]
+#[tactic(auto, using(crate::proofs::Grown::grown_twice), unfolding(crate::specs::Writing::font_bytes, crate::specs::Writing::font_after))]
+fn put_other_font(
+    out: &mut Output,
+    rows: &[FontRow],
+    numbering: &Numbering,
+    fonts: &mut Fonts,
+    cell: Cell,
+) -> Result<(), NoMemory>
+    requires definable { IsDefinable rows.now cell }
+    requires numbered { has_cell numbering.now cell ≡ true }
+    requires other { is_selected fonts.old.selected cell ≡ false }
+    ensures bytes { OnOk result (out.new
+        ≡ grown out.old (font_bytes rows.now numbering.now fonts.old cell)) }
+    ensures after { OnOk result (fonts.new ≡ font_after numbering.now fonts.old cell) }
+{
     let number = number_of(numbering, cell);
     if fonts.defined <= number {
         put_definition(out, rows, number, cell)?;

@@ -1,1 +1,3 @@
 pub mod InsertedCells
+pub mod UsedCells
+pub mod FewUses

@@ -1,0 +1,4 @@
+pub mod FewUses
+pub mod FontFile
+pub mod HalfWide
+pub mod ThreeLetters
