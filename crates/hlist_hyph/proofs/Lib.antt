@@ -1,0 +1,9 @@
+pub mod LoopLemmas
+pub mod RunLemmas
+pub mod WordLemmas
+pub mod DiscLemmas
+pub mod KeepLemmas
+pub mod BoundLemmas
+pub mod OwnLemmas
+pub mod SameLemmas
+pub mod Rows

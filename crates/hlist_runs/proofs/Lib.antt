@@ -1,0 +1,3 @@
+pub mod GlyphLemmas
+pub mod EndLemmas
+pub mod LawfulLemmas

@@ -1,0 +1,13 @@
+//! Runs as the lists of discretionaries: what a font's ligature and kern programs make of codes, as
+//! entries of such a list (TeX: The Program, sections 1032 to 1040, and 1117).
+//!
+//! [`run_subs`] gives exactly these entries, or the run's fault. A font kern has the glyph that
+//! stands directly before it in its run as its `left`.
+#![tactic(auto)]
+
+mod laws;
+mod running;
+mod subs;
+
+pub use laws::runs_give_lawful_lists;
+pub use running::run_subs;
