@@ -1,0 +1,7 @@
+pub mod PutLines
+pub mod NodeWays
+pub mod Tries
+pub mod Actives
+pub mod Joins
+pub mod Places
+pub mod Choices
