@@ -1,0 +1,15 @@
+pub mod StepLaws
+mod Totals
+mod MarginLaws
+mod ScanLaws
+mod Ranks
+mod SharingLaws
+mod LineMargins
+mod MeasureLaws
+mod PieceLaws
+pub mod Lookups
+pub mod RangeSteps
+mod ScanReads
+mod ScanSteps
+mod KeptReads
+mod BeginLaws

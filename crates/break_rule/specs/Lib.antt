@@ -1,0 +1,13 @@
+pub mod Adding
+pub mod Places
+pub mod Lines
+pub mod Fits
+pub mod Over
+pub mod Margins
+pub mod Kept
+pub mod Sharing
+pub mod Between
+pub mod Pieces
+pub mod Made
+pub mod Worked
+pub mod Steps
