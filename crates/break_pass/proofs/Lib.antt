@@ -1,0 +1,3 @@
+pub mod DemeritLaws
+pub mod PlaceLaws
+pub mod PassLaws

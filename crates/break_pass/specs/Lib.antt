@@ -1,0 +1,3 @@
+pub mod LegalPlaces
+pub mod Demerits
+pub mod Passes
