@@ -1,0 +1,2 @@
+pub mod OneFont
+pub mod SimpleLaws
