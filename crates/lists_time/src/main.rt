@@ -1,32 +1,41 @@
-//! Times how the horizontal lists of a job are built, beside a plain pass that pushes the same
-//! items.
+//! Times how the horizontal lists of a job are built and hyphenated, beside a plain pass that
+//! pushes the same items.
 //!
 //! It reads the file `job` and its fonts in the current folder, and prints the count of paragraphs,
-//! the count of items, and the nanoseconds that `build` and the plain pass took for all of them,
-//! the lists let go included. Without a job it prints nothing.
+//! the count of items, the count of discretionaries in the hyphenated lists, and the nanoseconds
+//! that `build`, `hyphenated` and the plain pass over the built lists took for all of them, the
+//! lists let go included. Without a job it prints nothing.
 #![tactic(auto)]
 
 mod plain_pass;
 mod stock;
 
 ghost use Rattle.std.specs.Prelude.{◌≡◌, All, IsTrue, length};
+ghost use Rattle.font_stock.specs.Sizes.{IsSize};
+ghost use Rattle.hlist.specs.Bounds.{IsSmall, IsListOf};
 ghost use Rattle.hlist_build.specs.Parts.{NamesFont};
 
 use crate::plain_pass::copied;
 use crate::stock::{file_bytes, stock_of};
 use font_stock::Stock;
+use hlist::{HList, Item};
 use hlist_build::{ParFault, build};
+use hlist_hyph::hyphenated;
 use job_text::{Job, read_job};
-use micro_num::{Par, Part, PartAt, Tables};
+use liang_hyph::Patterns;
+use micro_num::{NoMemory, Par, Params, Part, PartAt, Tables};
 use std::alloc::Global;
 use std::io;
+use std::rt::Files;
 use std::time::{Clock, Instant};
 
 /// What all paragraphs came to.
 #[derive(Drop)]
 struct Totals {
     items: u64,
+    discs: u64,
     build: u64,
+    hyphenated: u64,
     plain: u64,
 }
 
@@ -60,17 +69,75 @@ fn lost(fault: ParFault) -> io::Error {
     }
 }
 
+/// What can't be had for want of memory ends the run.
+fn no_memory(_fault: NoMemory) -> io::Error {
+    io::Error::from(io::ErrorKind::OutOfMemory)
+}
+
+/// How many discretionaries there are.
+fn count_discs(items: &[Item]) -> u64 {
+    let mut count: u64 = 0;
+    for item in items {
+        if let Item::Disc { .. } = item {
+            count = count.saturating_add(1);
+        }
+    }
+    count
+}
+
 /// The nanoseconds since a moment.
 fn since<C: Clock>(clock: &C, start: &Instant) -> io::Result<u64> {
     Ok(u64::try_from(start.elapsed(clock)?.as_nanos()).unwrap_or(u64::MAX))
 }
 
-/// Builds a paragraph's list and lets it go, builds it again, and pushes its items plainly.
+/// The hyphenated form of a list of the stock.
+fn hyphenated_list(
+    alloc: Global,
+    list: &HList,
+    params: &Params,
+    tables: &Tables,
+    patterns: &Patterns,
+    stock: &Stock,
+) -> io::Result<HList>
+    requires small { IsSmall list.now }
+    requires own { IsListOf stock.now list.now }
+{
+    hyphenated(alloc, list, params, tables, patterns, stock).map_err(no_memory)
+}
+
+/// Hyphenates a list and lets it go, and again to count its discretionaries.
+fn time_hyphenated<C: Clock>(
+    clock: &C,
+    alloc: Global,
+    list: &HList,
+    params: &Params,
+    tables: &Tables,
+    patterns: &Patterns,
+    stock: &Stock,
+    totals: &mut Totals,
+) -> io::Result<()>
+    requires small { IsSmall list.now }
+    requires own { IsListOf stock.now list.now }
+{
+    let start = Instant::now(clock)?;
+    let first = hyphenated_list(alloc, list, params, tables, patterns, stock)?;
+    drop(first);
+    totals.hyphenated = totals.hyphenated.saturating_add(since(clock, &start)?);
+    let made = hyphenated_list(alloc, list, params, tables, patterns, stock)?;
+    totals.discs = totals
+        .discs
+        .saturating_add(count_discs(made.items.as_slice()));
+    Ok(())
+}
+
+/// Builds a paragraph's list and lets it go, builds it again, hyphenates it, and pushes its items
+/// plainly.
 fn time_one<C: Clock>(
     clock: &C,
     alloc: Global,
     par: &Par,
     tables: &Tables,
+    patterns: &Patterns,
     stock: &Stock,
     totals: &mut Totals,
 ) -> io::Result<()>
@@ -82,6 +149,16 @@ fn time_one<C: Clock>(
     totals.build = totals.build.saturating_add(since(clock, &start)?);
     let list = build(alloc, par, tables, stock).map_err(lost)?;
     totals.items = totals.items.saturating_add(list.items.len() as u64);
+    time_hyphenated(
+        clock,
+        alloc,
+        &list,
+        &par.params,
+        tables,
+        patterns,
+        stock,
+        totals,
+    )?;
     let start = Instant::now(clock)?;
     let copy = copied(alloc, list.items.as_slice())?;
     drop(copy);
@@ -95,20 +172,47 @@ fn time_all<C: Clock>(
     alloc: Global,
     pars: &[Par],
     tables: &Tables,
+    patterns: &Patterns,
     stock: &Stock,
 ) -> io::Result<Totals> {
     let mut totals = Totals {
         items: 0,
+        discs: 0,
         build: 0,
+        hyphenated: 0,
         plain: 0,
     };
     for par in pars {
         if !name_fonts(stock, par.parts.as_slice()) {
             return Err(io::Error::from(io::ErrorKind::InvalidData));
         }
-        time_one(clock, alloc, par, tables, stock, &mut totals)?;
+        time_one(clock, alloc, par, tables, patterns, stock, &mut totals)?;
     }
     Ok(totals)
+}
+
+/// The count of a job's paragraphs, and what they came to, where its fonts can be had.
+fn time_job<R: Files + Clock>(
+    rt: &R,
+    alloc: Global,
+    job: Job,
+) -> io::Result<Option<(usize, Totals)>>
+    requires { All (λ font. IsSize font.size) job.fonts }
+{
+    let Job {
+        fonts,
+        tables,
+        patterns,
+        exceptions,
+        pars,
+    } = job;
+    let Some(stock) = stock_of(rt, alloc, fonts.into_vec())? else {
+        return Ok(None);
+    };
+    let table = Patterns::make(alloc, patterns.as_slice(), exceptions.as_slice());
+    let table = table.map_err(no_memory)?;
+    let totals = time_all(rt, alloc, pars.as_slice(), &tables, &table, &stock)?;
+    Ok(Some((pars.len(), totals)))
 }
 
 fn main(rt: HostRuntime) -> io::Result<()> {
@@ -121,22 +225,16 @@ fn main(rt: HostRuntime) -> io::Result<()> {
     let Ok(job) = read_job(rt.alloc(), &bytes) else {
         return Ok(());
     };
-    let Job {
-        fonts,
-        tables,
-        patterns: _patterns,
-        exceptions: _exceptions,
-        pars,
-    } = job;
-    let Some(stock) = stock_of(&rt, rt.alloc(), fonts.into_vec())? else {
+    let Some((count, totals)) = time_job(&rt, rt.alloc(), job)? else {
         return Ok(());
     };
-    let totals = time_all(&rt, rt.alloc(), pars.as_slice(), &tables, &stock)?;
-    let count = pars.len();
     let Totals {
         items,
+        discs,
         build,
+        hyphenated,
         plain,
     } = totals;
-    println!(rt; "paragraphs {count} items {items} build {build} plain {plain}")
+    print!(rt; "paragraphs {count} items {items} discs {discs} build {build} ")?;
+    println!(rt; "hyphenated {hyphenated} plain {plain}")
 }
