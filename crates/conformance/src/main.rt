@@ -15,6 +15,7 @@ mod numbers;
 mod tfm;
 mod tokens;
 
+use crate::lists::Form;
 use std::alloc::{AllocError, Global};
 use std::io;
 use std::io::{BufRead, BufReader};
@@ -31,7 +32,8 @@ fn answer<R: Files>(rt: &R, alloc: Global, line: &str) -> Result<Option<String>,
         "hyphenation" => hyphenation::answer(alloc, left),
         "jobs" => jobs::answer(alloc, left),
         "ligatures" => ligatures::answer(rt, alloc, left),
-        "lists" => lists::answer(rt, alloc, left),
+        "hyphenated" => lists::answer(rt, alloc, Form::Hyphenated, left),
+        "lists" => lists::answer(rt, alloc, Form::Built, left),
         "numbers" => numbers::answer(alloc, left),
         "tfm" => tfm::answer(rt, alloc, left),
         "tokens" => tokens::answer(alloc, left),
