@@ -73,6 +73,13 @@ impl InstanceTable {
         Ok((InstanceTable { table, key }, seat))
     }
 
+    /// The fonts that the table was made for.
+    pub fn bases(&self) -> &Bases
+        ensures { result.now ≡ self.now.bases }
+    {
+        &self.key.bases
+    }
+
     /// A new seat, split off seat 0, with the next number and room for a claim of each cell. It
     /// fails only for want of memory, and then changes nothing.
     pub fn split(&self, alloc: Global, seat: &mut Seat) -> Result<Seat, NoMemory>
