@@ -3,3 +3,4 @@ pub mod Gaps
 pub mod Adjoining
 pub mod Once
 pub mod Neighbours
+pub mod Ahead

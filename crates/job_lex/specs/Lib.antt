@@ -1,3 +1,5 @@
+pub mod Ahead
 pub mod Answers
 pub mod Category
+pub mod Cursors
 pub mod Tokens

@@ -30,6 +30,7 @@ pub enum Category {
 
 /// The category of a byte. Letters, which most bytes are, come first.
 #[tactic(auto, unfolding(crate::specs::Category::category))]
+#[inline(always)]
 pub fn category_of(byte: u8) -> Category
     ensures { result ≡ category byte }
 {

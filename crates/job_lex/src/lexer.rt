@@ -13,6 +13,7 @@ ghost use Rattle.job_lex.specs.declared.category.Category.TheVariants.{Escape, L
 use crate::category::{Category, category_of};
 use crate::fault::{LexFault, LexFaultKind};
 use crate::gap::gap_at;
+use crate::plain::plain_at;
 use crate::token::{Tok, TokKind};
 use items::Items;
 use std::alloc::Global;
@@ -62,8 +63,23 @@ pub fn first_fault(bytes: &[u8]) -> Option<(u32, LexFaultKind)>
     None
 }
 
-/// The token that begins at a place, or why none does.
-fn token_at(bytes: &[u8], place: usize) -> Result<Tok, LexFaultKind>
+/// The token that begins at a place of a file of fewer than 2^32 bytes, or why none does. Plain
+/// text, which most of a file is, comes first.
+#[inline(always)]
+pub(crate) fn token_at(bytes: &[u8], place: usize) -> Result<Tok, LexFaultKind>
+    requires small { length bytes.now < 2 ^ 32 }
+    requires inside { place < length bytes.now }
+    ensures { MatchResult result (λ tok. (tok.from ≡ place) × IsToken bytes.now tok)
+        (λ kind. IsStop bytes.now place kind) }
+{
+    match plain_at(bytes, place) {
+        Some(tok) => Ok(tok),
+        None => any_token_at(bytes, place),
+    }
+}
+
+/// The same for any token, by the category of its first byte.
+fn any_token_at(bytes: &[u8], place: usize) -> Result<Tok, LexFaultKind>
     requires small { length bytes.now < 2 ^ 32 }
     requires inside { place < length bytes.now }
     ensures { MatchResult result (λ tok. (tok.from ≡ place) × IsToken bytes.now tok)
@@ -82,7 +98,8 @@ fn token_at(bytes: &[u8], place: usize) -> Result<Tok, LexFaultKind>
 }
 
 /// A token of one byte.
-fn one(kind: TokKind, place: usize) -> Tok
+#[inline(always)]
+pub(crate) fn one(kind: TokKind, place: usize) -> Tok
     requires { place + 1 < 2 ^ 32 }
     ensures kind { result.kind ≡ kind }
     ensures from { result.from ≡ place }

@@ -9,14 +9,17 @@
 #![tactic(auto)]
 
 mod category;
+mod cursor;
 mod fault;
 mod gap;
 mod laws;
 mod lexer;
+mod plain;
 #[cfg(test)]
 mod tests;
 mod token;
 
+pub use cursor::Cursor;
 pub use fault::{LexFault, LexFaultKind};
 pub use laws::{gaps_stand_apart, texts_are_the_source, tokens_are_one};
 pub use lexer::{first_fault, tokens};

@@ -6,7 +6,7 @@ use Rattle.job_reading.specs.declared.fault.Fault.{Fault}
 use Rattle.job_reading.specs.declared.fault.JobFault.{JobFault}
 use Rattle.job_reading.specs.declared.fault.JobFault.TheVariants.{At, NoMemory}
 use Rattle.job_reading.specs.Reading.{Reading, ◌>>=◌, IsFaultOf}
-use Rattle.job_reading.specs.Repeats.{repeat, times}
+use Rattle.job_reading.specs.Repeats.{repeat, GoesOn, goes_on_from, times}
 
 -- a token that doesn't stop the loop is stepped at
 record Turn {A : Type 0} (stops : Lexeme → Bool) (step : A → Token → List Token → Reading A) (fuel : ℕ) (state : A) (left : List Token) (tok : Token) (tail : List Token) : Type 0 where
@@ -21,10 +21,6 @@ turn stops step (suc fuel) state left tok tail begins enough goes_on = record {
   enough = omega (arith, ap length begins);
   is = ap (repeat stops step (suc fuel) state) begins ∙ ap (λ b. cond b (Ok (state, tok ∷ tail)) (step state tok tail >>= λ x. repeat stops step fuel x.0 x.1)) goes_on;
 }
-
--- what the whole reads is what is read from here on, with what was read so far
-pub data GoesOn {A : Type 0} (stops : Lexeme → Bool) (step : A → Token → List Token → Reading A) (state : A) (left : List Token) (whole : Reading A) : Type 0 where
-  goes_on_from : (fuel : ℕ) → length left ≤ fuel → repeat stops step fuel state left ≡ whole → GoesOn stops step state left whole
 
 pub repeat_goes : {A : Type 0} (stops : Lexeme → Bool) (step : A → Token → List Token → Reading A) (state : A) (left : List Token) (tok : Token) (tail : List Token) (next : A) (behind : List Token) (whole : Reading A) → GoesOn stops step state left whole → left ≡ tok ∷ tail → stops tok.lexeme ≡ false → step state tok tail ≡ Ok (next, behind) → length behind ≤ length tail → GoesOn stops step next behind whole
 repeat_goes stops step state left tok tail next behind whole (goes_on_from fuel enough is) begins goes_on read shorter =

@@ -1,12 +1,9 @@
 -- The faults of a job by their numbers, and those of the tokens among them, which come before all others. They
 -- are the job language's own.
-use Rattle.std.specs.Prelude.{ℕ}
-use Rattle.job_lex.specs.declared.fault.LexFault.{LexFault}
-use Rattle.job_lex.specs.declared.fault.LexFault.TheVariants.{At as lex_at, NoMemory as lex_memory}
+use Rattle.std.specs.Prelude.{◌≡◌, ℕ, List}
+use Rattle.job_lex.specs.Tokens.{IsFirstFault}
 use Rattle.job_lex.specs.declared.fault.LexFaultKind.{LexFaultKind}
 use Rattle.job_lex.specs.declared.fault.LexFaultKind.TheVariants.{BadByte as bad_byte, LoneBackslash as lone_backslash, SpecialByte as special_byte}
-use Rattle.job_reading.specs.declared.fault.JobFault.{JobFault}
-use Rattle.job_reading.specs.declared.fault.JobFault.TheVariants.{At, NoMemory}
 use Rattle.job_reading.specs.declared.fault.JobFaultKind.{JobFaultKind}
 use Rattle.job_reading.specs.declared.fault.JobFaultKind.TheVariants.{UnknownWord, NumberExpected, NumberPast, UnitExpected, DimensionTooLarge, InfiniteShrink, AssignmentInParagraph, FontNotDeclared, BadPattern, BadException, UnclosedGroup, TooManyFonts, TooManyParagraphs, TooManyCells, NoFont, BadByte, LoneBackslash, SpecialByte, LateDeclaration, NameTaken, BadName, StrayBrace, BadDiscretionary, GroupExpected}
 
@@ -42,6 +39,8 @@ job_kind bad_byte = BadByte
 job_kind lone_backslash = LoneBackslash
 job_kind special_byte = SpecialByte
 
-abbrev pub job_fault : LexFault → JobFault
-job_fault (lex_at offset kind) = At offset (job_kind kind)
-job_fault lex_memory = NoMemory
+-- no token begins at the place
+pub record IsTokenFault (bytes : List ℕ) (place : ℕ) (kind : JobFaultKind) : Type 0 where
+  pub cause : LexFaultKind
+  pub first : IsFirstFault bytes place cause
+  pub is : kind ≡ job_kind cause

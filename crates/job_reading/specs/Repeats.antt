@@ -1,5 +1,5 @@
 -- Reading one thing after another. This is the crate's own.
-use Rattle.std.specs.Prelude.{ℕ, zero, suc, Bool, List, [], ◌∷◌, length, Ok, if◌then◌else◌}
+use Rattle.std.specs.Prelude.{◌≡◌, ◌≤◌, ℕ, zero, suc, Bool, List, [], ◌∷◌, length, Ok, if◌then◌else◌}
 use Rattle.job_reading.specs.declared.token.Token.{Token}
 use Rattle.job_reading.specs.declared.token.Lexeme.{Lexeme}
 use Rattle.job_reading.specs.Reading.{Reading, ◌>>=◌}
@@ -16,6 +16,10 @@ repeat stops step (suc fuel) state (tok ∷ toks) =
 -- as far as such a token, or to the end of the file
 abbrev pub read_until : {A : Type 0} → (Lexeme → Bool) → (A → Token → List Token → Reading A) → A → List Token → Reading A
 read_until stops step state toks = repeat stops step (length toks) state toks
+
+-- What the whole reads is what is read from here on, with what was read so far.
+pub data GoesOn {A : Type 0} (stops : Lexeme → Bool) (step : A → Token → List Token → Reading A) (state : A) (left : List Token) (whole : Reading A) : Type 0 where
+  goes_on_from : (fuel : ℕ) → length left ≤ fuel → repeat stops step fuel state left ≡ whole → GoesOn stops step state left whole
 
 -- The rule step is carried out so many times.
 abbrev pub times : {A : Type 0} → ℕ → (A → List Token → Reading A) → A → List Token → Reading A

@@ -4,7 +4,7 @@
 ghost use Rattle.std.specs.Prelude.{◌≡◌};
 ghost use Rattle.job_reading.specs.Faults.{fault_number, job_kind};
 
-use job_lex::{LexFault, LexFaultKind};
+use job_lex::LexFaultKind;
 use micro_num::NoMemory;
 use std::alloc::{AllocError, AllocFailed};
 use std::error::Error;
@@ -148,24 +148,8 @@ impl From<Fault> for JobFault {
     }
 }
 
-impl From<LexFault> for JobFault {
-    ghost use Rattle.job_reading.specs.Faults.{job_fault};
-
-    ghost from_gives = { λ fault e. e ≡ job_fault fault };
-
-    fn from(fault: LexFault) -> JobFault {
-        match fault {
-            LexFault::At { offset, kind } => JobFault::At {
-                offset,
-                kind: job_kind(kind),
-            },
-            LexFault::NoMemory => JobFault::NoMemory,
-        }
-    }
-}
-
 /// A fault of the tokens among the faults of a job.
-fn job_kind(kind: LexFaultKind) -> JobFaultKind
+pub(crate) fn job_kind(kind: LexFaultKind) -> JobFaultKind
     ensures { result ≡ job_kind kind }
 {
     match kind {

@@ -2,36 +2,46 @@
 //!
 //! They are those of the file without the gaps that mean nothing: a gap that begins with a comment,
 //! and a Space behind a control word or a control space (TeX: The Program, sections 345 to 354).
-//! Each is made from the file's own tokens when it is asked for, so no list of them is kept.
-ghost use Rattle.std.specs.Prelude.{◌≡◌, ◌≤◌, false, length, map};
+//! Each is made from the file's own tokens when it is asked for, so no list of either is kept.
+ghost use Rattle.std.specs.Prelude.{◌≡◌, ◌<◌, ◌≤◌, ◌^◌, false, length, map, Some, IfSome, MatchResult};
 ghost use Rattle.job_reading.specs.GrammarTokens.{lookup, word_lexeme, lexeme_of, token_of};
-ghost use Rattle.job_reading.specs.GrammarTokens.{reserved, grammar_tokens};
+ghost use Rattle.job_reading.specs.GrammarTokens.{reserved, grammar_from, is_skip, swallows_space};
+ghost use Rattle.job_lex.specs.Cursors.{bytes_of, toks_of};
+ghost use Rattle.job_reading.specs.Faults.{IsTokenFault};
 ghost use Rattle.job_reading.specs.Reading.{skip_space, equals};
-ghost use Rattle.job_reading.specs.Rest.{left, IsNext};
+ghost use Rattle.job_reading.specs.Rest.{left, AreAllLeft, IsNext};
 
+use crate::fault::{Fault, job_kind};
 use crate::source::{byte, slice};
 use crate::token::{Lexeme, Token};
 use crate::word::{RESERVED, Word};
-use job_lex::{Tok, TokKind};
+use job_lex::{Cursor, Tok, TokKind};
 
 /// The tokens of the grammar that are left.
 #[derive(Clone, Copy, Debug)]
 pub struct Rest<'a> {
-    bytes: &'a [u8],
-    toks: &'a [Tok],
+    cursor: Cursor<'a>,
     swallows: bool,
 }
 
 impl<'a> Rest<'a> {
-    /// All tokens of the grammar of a file with these tokens.
+    /// All tokens of the grammar of a file of fewer than 2^32 bytes; or a fault at the first place
+    /// outside comments where no token begins.
     #[tactic(auto, unfolding(crate::specs::Rest::left))]
-    pub fn new(bytes: &'a [u8], toks: &'a [Tok]) -> Rest<'a>
-        ensures { left result ≡ grammar_tokens bytes.now toks.now }
+    pub fn new(bytes: &'a [u8]) -> Result<Rest<'a>, Fault>
+        requires { length bytes.now < 2 ^ 32 }
+        ensures { MatchResult result (λ rest. AreAllLeft bytes.now rest)
+            (λ fault. IsTokenFault bytes.now fault.offset fault.kind) }
     {
-        Rest {
-            bytes,
-            toks,
-            swallows: false,
+        match Cursor::new(bytes) {
+            Ok(cursor) => Ok(Rest {
+                cursor,
+                swallows: false,
+            }),
+            Err((offset, kind)) => Err(Fault {
+                offset,
+                kind: job_kind(kind),
+            }),
         }
     }
 
@@ -41,24 +51,44 @@ impl<'a> Rest<'a> {
         ensures { IsNext result (left self.entry) }
     {
         let mut swallows = self.swallows;
-        let mut toks = self.toks;
-        while let [tok, tail @ ..] = toks {
-            toks = tail;
+        let mut cursor = self.cursor;
+        while let Some((tok, behind)) = cursor.next() {
+            cursor = behind;
             match tok.kind {
                 TokKind::Skip => {}
                 TokKind::Space if swallows => swallows = false,
-                _ => {
-                    let token = token_of(self.bytes, *tok);
-                    let rest = Rest {
-                        bytes: self.bytes,
-                        toks,
-                        swallows: token.lexeme.swallows_space(),
-                    };
-                    return Some((token, rest));
-                }
+                _ => return Some(taken(tok, cursor)),
             }
         }
         None
+    }
+
+    /// The same where two bytes tell the token, as in plain text; otherwise nothing.
+    #[tactic(auto, unfolding(crate::specs::Rest::left))]
+    #[inline(always)]
+    pub fn next_plain(self) -> Option<(Token, Rest<'a>)>
+        ensures { IfSome result (λ x. IsNext (Some x) (left self.entry)) }
+    {
+        if self.swallows {
+            return None;
+        }
+        match self.cursor.next_plain() {
+            Some((tok, cursor)) => match plain_lexeme(cursor.bytes(), tok) {
+                Some(lexeme) => Some((
+                    Token {
+                        lexeme,
+                        from: tok.from,
+                        to: tok.to,
+                    },
+                    Rest {
+                        cursor,
+                        swallows: false,
+                    },
+                )),
+                None => None,
+            },
+            None => None,
+        }
     }
 
     /// The tokens behind a Space, if one comes first.
@@ -84,6 +114,24 @@ impl<'a> Rest<'a> {
     }
 }
 
+/// The token of the grammar that a token of the file is, which is left out in no place, and the
+/// tokens behind it.
+#[tactic(auto, unfolding(crate::specs::Rest::left))]
+#[inline(always)]
+fn taken<'a>(tok: Tok, cursor: Cursor<'a>) -> (Token, Rest<'a>)
+    ensures token { result.0 ≡ token_of (bytes_of cursor.entry) tok }
+    ensures behind { left result.1 ≡ grammar_from (bytes_of cursor.entry)
+        (swallows_space (lexeme_of (bytes_of cursor.entry) tok)) (toks_of cursor.entry) }
+{
+    let token = token_of(cursor.bytes(), tok);
+    let rest = Rest {
+        cursor,
+        swallows: token.lexeme.swallows_space(),
+    };
+    (token, rest)
+}
+
+#[inline(always)]
 fn token_of(bytes: &[u8], tok: Tok) -> Token
     ensures { result ≡ token_of bytes.now tok }
 {
@@ -94,6 +142,7 @@ fn token_of(bytes: &[u8], tok: Tok) -> Token
     }
 }
 
+#[inline(always)]
 fn lexeme_of(bytes: &[u8], tok: Tok) -> Lexeme
     ensures { result ≡ lexeme_of bytes.now tok }
 {
@@ -109,8 +158,23 @@ fn lexeme_of(bytes: &[u8], tok: Tok) -> Lexeme
     }
 }
 
+/// What a byte that stands for itself or a Space is, and nothing for any other token.
+#[inline(always)]
+fn plain_lexeme(bytes: &[u8], tok: Tok) -> Option<Lexeme>
+    ensures value { IfSome result (λ lexeme. lexeme ≡ lexeme_of bytes.now tok) }
+    ensures kept { IfSome result (λ lexeme. is_skip tok.kind ≡ false) }
+    ensures swallows { IfSome result (λ lexeme. swallows_space lexeme ≡ false) }
+{
+    match tok.kind {
+        TokKind::Char => Some(Lexeme::Char(byte(bytes, tok.from as usize))),
+        TokKind::Space => Some(Lexeme::Space),
+        _ => None,
+    }
+}
+
 /// What a control word of this name is.
 #[tactic(auto, unfolding(crate::specs::GrammarTokens::reserved))]
+#[inline(never)]
 fn word_lexeme(name: &[u8]) -> Lexeme
     ensures { result ≡ word_lexeme name.now }
 {

@@ -15,15 +15,14 @@ use Rattle.job_reading.specs.Lexemes.{ends_job}
 use Rattle.job_reading.specs.Reading.{Reading}
 use Rattle.job_reading.specs.Repeats.{read_until}
 use Rattle.job_reading.specs.GrammarTokens.{grammar_tokens}
-use Rattle.job_reading.specs.Faults.{job_kind}
+use Rattle.job_reading.specs.Faults.{job_kind, IsTokenFault}
 use Rattle.job_text.specs.Job.{State, start, job_step, job_of}
-use Rattle.job_text.specs.Answers.{Said, said_by, IsJobOf, IsTokenFault, IsGrammarFault, IsFaultAt, HasJob, HasFault, IsAnswer, GivesJob, GivesFault}
+use Rattle.job_text.specs.Answers.{Said, said_by, IsJobOf, IsGrammarFault, IsFaultAt, HasJob, HasFault, IsAnswer, GivesJob, GivesFault}
 
--- what the code reads from the tokens that it cut is what the definition reads from them
-pub reads_job : (bytes source : List ℕ) (toks slice : List Tok) (read : List Token) (first : State) (outcome : Reading State) → source ≡ bytes → slice ≡ toks → read ≡ grammar_tokens bytes slice → first ≡ start → read_until ends_job (job_step source) first read ≡ outcome → job_of bytes (grammar_tokens bytes toks) ≡ outcome
-reads_job bytes source toks slice read first outcome same sliced is begins reads =
-    ap (λ (ts : List Tok). job_of bytes (grammar_tokens bytes ts)) (sym sliced)
-    ∙ ap (λ (ts : List Token). job_of bytes ts) (sym is)
+-- what the code reads from the tokens of the file is what the definition reads from them
+pub reads_job : (bytes source : List ℕ) (toks : List Tok) (read : List Token) (first : State) (outcome : Reading State) → source ≡ bytes → read ≡ grammar_tokens bytes toks → first ≡ start → read_until ends_job (job_step source) first read ≡ outcome → job_of bytes (grammar_tokens bytes toks) ≡ outcome
+reads_job bytes source toks read first outcome same is begins reads =
+    ap (λ (ts : List Token). job_of bytes ts) (sym is)
     ∙ ap (λ (s : State). read_until ends_job (job_step bytes) s read) (sym begins)
     ∙ ap (λ (b : List ℕ). read_until ends_job (job_step b) first read) (sym same)
     ∙ reads

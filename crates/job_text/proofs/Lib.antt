@@ -4,4 +4,5 @@ pub mod FontsFitting
 pub mod JobFitting
 pub mod JobOnce
 pub mod PartsFitting
+pub mod PlainText
 pub mod ShapesFitting

@@ -5,14 +5,13 @@ use Rattle.micro_num.specs.declared.paragraph.Par.{Par}
 use Rattle.micro_num.specs.declared.tables.Tables.{Tables}
 use Rattle.liang_hyph.specs.declared.source.Exception.{Exception}
 use Rattle.job_lex.specs.declared.token.Tok.{Tok}
-use Rattle.job_lex.specs.declared.fault.LexFaultKind.{LexFaultKind}
-use Rattle.job_lex.specs.Tokens.{AreTokens, IsFirstFault}
+use Rattle.job_lex.specs.Tokens.{AreTokens}
 use Rattle.job_reading.specs.declared.token.Token.{Token}
 use Rattle.job_text.specs.declared.job.Job.{Job}
 use Rattle.job_reading.specs.declared.fault.JobFault.{JobFault}
 use Rattle.job_reading.specs.declared.fault.JobFault.TheVariants.{At, NoMemory}
 use Rattle.job_reading.specs.declared.fault.JobFaultKind.{JobFaultKind}
-use Rattle.job_reading.specs.Faults.{job_kind}
+use Rattle.job_reading.specs.Faults.{IsTokenFault}
 use Rattle.job_reading.specs.GrammarTokens.{grammar_tokens}
 use Rattle.job_text.specs.Fonts.{Font, fonts_of}
 use Rattle.job_text.specs.Hyphenation.{PatternText, patterns_of}
@@ -40,12 +39,6 @@ pub record IsJobOf (bytes : List ℕ) (said : Said) : Type 0 where
   pub are_tokens : AreTokens bytes toks
   pub reads : job_of bytes (grammar_tokens bytes toks) ≡ Ok (state, rest)
   pub is : said_by state ≡ said
-
--- no token begins at the place
-pub record IsTokenFault (bytes : List ℕ) (place : ℕ) (kind : JobFaultKind) : Type 0 where
-  pub cause : LexFaultKind
-  pub first : IsFirstFault bytes place cause
-  pub is : kind ≡ job_kind cause
 
 -- the bytes have tokens, which break the grammar first at the place
 pub record IsGrammarFault (bytes : List ℕ) (place : ℕ) (kind : JobFaultKind) : Type 0 where

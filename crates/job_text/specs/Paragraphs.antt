@@ -9,7 +9,7 @@ use Rattle.job_reading.specs.declared.fault.JobFaultKind.TheVariants.{UnclosedGr
 use Rattle.job_reading.specs.Lexemes.{ends_paragraph}
 use Rattle.job_reading.specs.Reading.{Reading, ◌>>=◌, fault}
 use Rattle.job_text.specs.Parts.{with_current, part}
-use Rattle.job_reading.specs.Repeats.{read_until}
+use Rattle.job_reading.specs.Repeats.{read_until, GoesOn}
 
 -- where a paragraph begins there is a Font part of the current font, if there is one
 abbrev pub start_setting : Option ℕ → ℕ → Setting
@@ -19,6 +19,10 @@ start_setting current from = with_current (record { parts = []; current = curren
 abbrev pub first_part : List ℕ → List (List ℕ) → Setting → Option Token → List Token → Reading Setting
 first_part bytes names setting None toks = Ok (setting, toks)
 first_part bytes names setting (Some tok) toks = part bytes names setting tok toks
+
+-- the parts of a paragraph are read on from the second setting and tokens as from the first
+abbrev pub GoesOnAs : Setting → List Token → Setting → List Token → Type 0
+GoesOnAs old toks new behind = (bytes : List ℕ) (names : List (List ℕ)) (whole : Reading Setting) → GoesOn ends_paragraph (part bytes names) old toks whole → GoesOn ends_paragraph (part bytes names) new behind whole
 
 -- no group is open
 abbrev pub no_open_group : List Group → Result (Unit {0}) Fault

@@ -5,16 +5,20 @@ ghost use Rattle.std.specs.Prelude.{◌≡◌, ◌<◌, ◌≤◌, ◌^◌, leng
 ghost use Rattle.job_reading.specs.Lexemes.{ends_paragraph};
 ghost use Rattle.job_text.specs.Parts.{part};
 ghost use Rattle.job_reading.specs.Repeats.{read_until};
-ghost use Rattle.job_text.specs.Paragraphs.{first_part, paragraph};
+ghost use Rattle.job_text.specs.Paragraphs.{first_part, GoesOnAs, paragraph};
+ghost use Rattle.job_reading.specs.Rest.{left};
 
 use crate::groups::Groups;
 use crate::names::Names;
 use crate::part::part;
 use crate::setting::Setting;
 use items::Items;
-use job_reading::{JobFault, Rest, Source, Token};
-use micro_num::PartAt;
+use job_reading::{JobFault, Lexeme, Rest, Source, Token};
+use micro_num::{NoMemory, Part, PartAt};
 use std::alloc::Global;
+
+/// The room for parts that a paragraph begins with, so that the list of most is never moved.
+const FIRST_ROOM: usize = 512;
 
 /// The parts of a paragraph, and the font that is current behind them.
 type Laid = (Items<PartAt>, Option<u32>);
@@ -35,7 +39,7 @@ pub(crate) fn paragraph<'a>(
         tail.entry }
 {
     let mut setting = Setting {
-        parts: Items::new(alloc),
+        parts: Items::from_vec(Vec::with_capacity(alloc, FIRST_ROOM)?),
         current,
         groups: Groups::new(alloc),
     };
@@ -48,7 +52,16 @@ pub(crate) fn paragraph<'a>(
         current,
         groups: _groups,
     } = setting;
-    Ok(((parts, current), left))
+    Ok(((without_room(parts), current), left))
+}
+
+/// The same parts in no more memory than they take, as most of a job's memory is theirs.
+fn without_room(parts: Items<PartAt>) -> Items<PartAt>
+    ensures { result ≡ parts }
+{
+    let mut list = parts.into_vec();
+    list.shrink_to_fit();
+    Items::from_vec(list)
 }
 
 /// The part that the first token is, if it is one.
@@ -85,7 +98,29 @@ fn parts<'a>(
         if token.lexeme.ends_paragraph() {
             return Ok(more);
         }
-        more = part(alloc, source, names, setting, token, tail)?;
+        let behind = part(alloc, source, names, setting, token, tail)?;
+        more = plain_parts(setting, behind)?;
+    }
+    Ok(more)
+}
+
+/// The parts of plain text, as far as it goes, and the tokens behind it. It needs a current font.
+fn plain_parts<'a>(setting: &mut Setting, rest: Rest<'a>) -> Result<Rest<'a>, NoMemory>
+    ensures value { IfOk result (λ behind.
+        GoesOnAs setting.old (left rest.entry) setting.new (left behind)) }
+    ensures within { IfOk result (λ behind. length (left behind) ≤ length (left rest.entry)) }
+{
+    if setting.current.is_none() {
+        return Ok(rest);
+    }
+    let mut more = rest;
+    while let Some((token, tail)) = more.next_plain() {
+        match token.lexeme {
+            Lexeme::Char(code) => setting.add(token.from, Part::Char { code })?,
+            Lexeme::Space => setting.add(token.from, Part::Space)?,
+            _ => return Ok(more),
+        }
+        more = tail;
     }
     Ok(more)
 }

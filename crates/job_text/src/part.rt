@@ -17,6 +17,7 @@ use std::alloc::Global;
 
 /// The part that a token begins in a paragraph, and the tokens behind it.
 #[tactic(auto, unfolding(crate::specs::Parts::part))]
+#[inline(always)]
 pub(crate) fn part<'a>(
     alloc: Global,
     source: &Source,
@@ -43,6 +44,7 @@ pub(crate) fn part<'a>(
 
 /// A part that needs a current font.
 #[tactic(auto, unfolding(crate::specs::Parts::text))]
+#[inline(always)]
 fn text<'a>(
     setting: &mut Setting,
     token: Token,

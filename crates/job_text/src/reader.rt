@@ -1,4 +1,4 @@
-//! A whole job: its file is cut into tokens, which are then read from the first to the last.
+//! A whole job: the tokens of its file are read one after another, as they are cut.
 ghost use Rattle.std.specs.Prelude.{◌≡◌, ℕ, ◌<◌, ◌^◌, ◌⊎◌, List, length, IfOk};
 ghost use Rattle.job_text.specs.Answers.{HasJob, HasFault};
 ghost use Rattle.job_text.specs.Answers.{Said, said_of, said_by, IsJobOf, IsFaultAt, IsAnswer};
@@ -10,7 +10,7 @@ ghost use Rattle.job_reading.specs.declared.fault.JobFaultKind.{JobFaultKind};
 use crate::job::Job;
 use crate::state::State;
 use items::Items;
-use job_lex::{first_fault, tokens};
+use job_lex::first_fault;
 use job_reading::{JobFault, Rest, Source};
 use std::alloc::Global;
 
@@ -51,10 +51,10 @@ fn read(alloc: Global, bytes: &[u8]) -> Result<Job, JobFault>
     requires { length bytes.now < 2 ^ 32 }
     ensures { IsAnswer bytes.now result }
 {
-    let toks = tokens(alloc, bytes)?;
+    let rest = Rest::new(bytes)?;
     let source = Source::new(bytes);
     let mut state = State::new(alloc);
-    state.read(alloc, &source, Rest::new(bytes, toks.as_slice()))?;
+    state.read(alloc, &source, rest)?;
     Ok(job(state))
 }
 

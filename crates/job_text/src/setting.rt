@@ -19,6 +19,7 @@ pub(crate) struct Setting {
 
 impl Setting {
     /// One more part.
+    #[inline(always)]
     pub(crate) fn add(&mut self, offset: u32, part: Part) -> Result<(), NoMemory>
         ensures { OnOk result (self.new ≡ add_part self.old offset part) }
     {
@@ -37,6 +38,7 @@ impl Setting {
     }
 
     /// That there is a current font, which a part that begins with a token needs.
+    #[inline(always)]
     pub(crate) fn require_font(&self, token: Token) -> Result<(), Fault>
         ensures { Gives (λ x. x) result (require_font self.now token.from) }
     {

@@ -1,6 +1,7 @@
 use Rattle.std.proofs.Common.{refl, sym, ◌∙◌, arith}
 use Rattle.std.proofs.lemmas.Result.{err_from_is_err_and}
-use Rattle.job_reading.proofs.Repeats.{goes_on_from, repeat_goes, repeat_fails, repeat_ends, repeat_stops, pass_on}
+use Rattle.job_reading.specs.Repeats.{goes_on_from}
+use Rattle.job_reading.proofs.Repeats.{repeat_goes, repeat_fails, repeat_ends, repeat_stops, pass_on}
 use Rattle.job_text.proofs.paragraph.parts.Goals as goal
 
 pub loop-token-init : goal.loop-token-init
@@ -9,15 +10,15 @@ loop-token-init c = record { value = goes_on_from _ (omega arith) refl; within =
 pub returns-then-ends_paragraph : goal.returns-then-ends_paragraph
 returns-then-ends_paragraph c = (repeat_stops _ _ _ _ _ _ _ c.loop-token.invariant.value c.in-Some.ensures.0 (sym c.ends_paragraph.ensures ∙ c.if-ends_paragraph.true), c.loop-token.invariant.within)
 
-pub returns-in_err-more : goal.returns-in_err-more
-returns-in_err-more c =
+pub returns-in_err-behind : goal.returns-in_err-behind
+returns-in_err-behind c =
     let p = err_from_is_err_and c.from_residual.result c.from_residual.ensures.1 in
-    rw (p.1, p.2) (pass_on _ _ _ c.in_err-more.ensures (λ fault read. repeat_fails _ _ _ _ _ _ _ _ c.loop-token.invariant.value c.in-Some.ensures.0 (sym c.ends_paragraph.ensures ∙ c.if-ends_paragraph.false) read))
+    rw (p.1, p.2) (pass_on _ _ _ c.in_err-behind.ensures (λ fault read. repeat_fails _ _ _ _ _ _ _ _ c.loop-token.invariant.value c.in-Some.ensures.0 (sym c.ends_paragraph.ensures ∙ c.if-ends_paragraph.false) read))
 
 pub loop-token-preserved : goal.loop-token-preserved
 loop-token-preserved c = record {
-  value = repeat_goes _ _ _ _ _ _ _ _ _ c.loop-token.invariant.value c.in-Some.ensures.0 (sym c.ends_paragraph.ensures ∙ c.if-ends_paragraph.false) c.in_ok-more.ensures.0 c.in_ok-more.ensures.1;
-  within = omega (arith, c.in-Some.ensures.1, c.in_ok-more.ensures.1);
+  value = c.in_ok-more.ensures.value _ _ _ (repeat_goes _ _ _ _ _ _ _ _ _ c.loop-token.invariant.value c.in-Some.ensures.0 (sym c.ends_paragraph.ensures ∙ c.if-ends_paragraph.false) c.in_ok-behind.ensures.0 c.in_ok-behind.ensures.1);
+  within = omega (arith, c.loop-token.invariant.within, c.in-Some.ensures.1, c.in_ok-behind.ensures.1, c.in_ok-more.ensures.within);
 }
 
 pub returns : goal.returns

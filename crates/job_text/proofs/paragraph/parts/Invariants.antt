@@ -3,7 +3,7 @@ use Rattle.job_reading.specs.Lexemes.{ends_paragraph}
 use Rattle.job_reading.specs.Rest.{left}
 use Rattle.job_text.specs.Parts.{part}
 use Rattle.job_reading.specs.Repeats.{read_until}
-use Rattle.job_reading.proofs.Repeats.{GoesOn}
+use Rattle.job_reading.specs.Repeats.{GoesOn}
 use Rattle.job_text.proofs.paragraph.parts.Given as goal
 
 abbrev pub invariant-loop-token : goal.invariant-loop-token

@@ -3,7 +3,7 @@ use Rattle.job_reading.specs.Lexemes.{is_close}
 use Rattle.job_reading.specs.Repeats.{read_until}
 use Rattle.job_reading.specs.Rest.{left}
 use Rattle.job_text.specs.Hyphenation.{exception_step}
-use Rattle.job_reading.proofs.Repeats.{GoesOn}
+use Rattle.job_reading.specs.Repeats.{GoesOn}
 use Rattle.job_text.proofs.patterns.exception_list.Given as goal
 
 abbrev pub invariant-loop-token : goal.invariant-loop-token

@@ -1,6 +1,7 @@
 use Rattle.std.proofs.Common.{refl, sym, ◌∙◌, arith}
 use Rattle.std.proofs.lemmas.Result.{err_from_is_err_and}
-use Rattle.job_reading.proofs.Repeats.{goes_on_from, repeat_goes, repeat_fails, repeat_ends, repeat_stops, pass_on}
+use Rattle.job_reading.specs.Repeats.{goes_on_from}
+use Rattle.job_reading.proofs.Repeats.{repeat_goes, repeat_fails, repeat_ends, repeat_stops, pass_on}
 use Rattle.job_text.proofs.patterns.pattern_list.Goals as goal
 
 pub loop-token-init : goal.loop-token-init
