@@ -2,14 +2,15 @@
 --     earlier_on, earlier_end     the nodes before a node
 --     way_made                    the way that is given back
 --     none_yet                    where no node was looked at
+--     groups_more                 one more group
 --     choice_step, choice_more    one more node in front of those that were looked at
-use Rattle.std.proofs.Common.{◌≡◌, ℕ, zero, suc, ◌+◌, ◌-◌, ◌<◌, ◌≤◌, Bool, true, false, cond, not, ◌&&◌, ℤ, ◌≤ℤ◌, ◌<ℤ◌, List, [], ◌∷◌, ◌++◌, length, get_or, take, drop, Option, Some, None, refl, sym, ap, ◌∙◌, subst, zero-add, arith}
+use Rattle.std.proofs.Common.{◌≡◌, ℕ, zero, suc, ◌+◌, ◌-◌, ◌<◌, ◌≤◌, Bool, true, false, cond, not, ◌&&◌, ℤ, ◌≤ℤ◌, ◌<ℤ◌, List, [], ◌∷◌, ◌++◌, map, length, get_or, take, drop, Option, Some, None, refl, sym, ap, ◌∙◌, subst, zero-add, arith}
 use Rattle.std.specs.Prelude.{int_le, option_map, IfSome}
 use Rattle.std.specs.List.{fold, slice_get}
 use Rattle.std.specs.declared.cmp.Ordering.{Ordering}
 use Rattle.std.specs.declared.cmp.Ordering.TheVariants.{Less, Equal, Greater}
 use Rattle.std.specs.Ordering.{MatchOrdering, int_cmp, is_lt, on}
-use Rattle.std.proofs.lemmas.List.{length_push, length-take-le, take-append-drop, get_or_append_left, get_or_at, drop_more, drop_all}
+use Rattle.std.proofs.lemmas.List.{length_push, length-take-le, take-append-drop, get_or_append_left, get_or_at, get_or_read, drop_more, drop_all, map-append, take_more}
 use Rattle.std.proofs.lemmas.List.Sums.{fold-append}
 use Rattle.std.proofs.lemmas.Option.{slice_get-get_or, slice_get_past}
 use Rattle.std.proofs.lemmas.Cmp.{int_ranked}
@@ -158,3 +159,21 @@ way_made ms index m earlier h e f =
     ∙ (ap (λ x. way x earlier (get_or ms index no_made).total) (sym (read_last ms index no_made h))
     ∙ (ap (way w.last earlier) (sym (read_total ms index no_made h))
     ∙ ap (λ l. way w.last l w.total) f))
+
+-- one more group of the nodes
+pub groups_more : (ms : List Made) (indices : List ℕ) (k index : ℕ) (m : Made) → k < length indices → index ≡ get_or indices k index → index < length ms
+    → m ≡ get_or ms index m
+    → map (λ (w : Way). w.last.group) (take (k + 1) (listed (ways_of ms) indices))
+    ≡ map (λ (w : Way). w.last.group) (take k (listed (ways_of ms) indices)) ++ m.node.group ∷ []
+groups_more ms indices k index m within read below got =
+    let all = listed (ways_of ms) indices in
+    let n = listed_length (ways_of ms) indices in
+    let here : index ≡ get_or indices k 0 = get_or_read indices k index within read 0 in
+    let last : (get_or all k no_way).last ≡ m.node
+    = ap (λ (w : Way). w.last) (listed_at (ways_of ms) indices k 0 no_way within)
+    ∙ ap (λ (i : ℕ). (way_at (ways_of ms) i).last) (sym here)
+    ∙ read_last ms index no_made below
+    ∙ ap (λ (x : Made). x.node) (sym (get_or_read ms index m below got no_made)) in
+    ap (map (λ (w : Way). w.last.group)) (take_more all k no_way (omega arith))
+    ∙ map-append (λ (w : Way). w.last.group) (take k all) (get_or all k no_way ∷ [])
+    ∙ ap (λ (x : Node). map (λ (w : Way). w.last.group) (take k all) ++ x.group ∷ []) last

@@ -1,5 +1,5 @@
 //! What a sweep ends with: the last list of active nodes, and the ways that they stand for.
-ghost use Rattle.std.specs.Prelude.{◌≡◌, ◌<◌, ◌==◌, ℕ, List, length, option_map, if◌then◌else◌, IfOk, IfSome};
+ghost use Rattle.std.specs.Prelude.{◌≡◌, ◌<◌, ◌==◌, ℕ, List, length, map, option_map, if◌then◌else◌, IfOk, IfSome};
 ghost use Rattle.std.specs.List.{All};
 ghost use Rattle.line_break.specs.Best.{best, best_of_group, end_of};
 ghost use Rattle.line_break.specs.Laws.{IsEnded, of_group};
@@ -56,6 +56,18 @@ impl ActiveNodes {
         ensures { IfOk result (λ way. way ≡ first_of_least self.now) }
     {
         way_found(alloc, self.nodes.as_slice(), self.active.as_slice(), None)
+    }
+
+    /// The group of each node, in their order.
+    pub fn groups(&self, alloc: Global) -> Result<Items<u32>, NoMemory>
+        ensures { IfOk result (λ groups. groups ≡ map (λ way. way.last.group) self.now) }
+    {
+        let mut groups = Items::new(alloc);
+        for at in 0..self.active.len() {
+            let index = self.active[at];
+            groups.push(self.nodes[index as usize].node.group)?;
+        }
+        Ok(groups)
     }
 
     /// The way of the first node of least total in a group, where there is one.

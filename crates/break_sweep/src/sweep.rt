@@ -16,7 +16,8 @@ use std::alloc::Global;
 use std::mem;
 
 /// The arrays of a sweep: all nodes that were made, the indices of those that are active, and room
-/// for those that live on and for the lines recorded at a place.
+/// for those that live on and for the lines recorded at a place. Room for either is taken before
+/// the nodes are tried, so that trying one takes none.
 #[derive(Drop)]
 pub(crate) struct Arrays {
     pub nodes: Vec<Made>,
@@ -63,8 +64,11 @@ impl Arrays {
         let to = place + 1;
         let forced = lines.forces(to);
         let stop = Stop { place: to, forced };
+        let count = self.active.len();
         self.living.clear();
+        self.living.reserve(count)?;
         self.best.clear();
+        self.best.reserve(count)?;
         let old = self.nodes.as_slice();
         try_nodes(
             lines,
