@@ -1,5 +1,5 @@
 pub mod StepLaws
-mod Totals
+pub mod Totals
 mod MarginLaws
 mod ScanLaws
 mod Ranks

@@ -60,7 +60,7 @@ fn sub_sums(stock: &Stock, sub: &Sub) -> Sums
 
 /// What a character or ligature of a font adds.
 #[tactic(auto, unfolding(crate::specs::Adding::sums_of_glyph))]
-fn glyph_sums(stock: &Stock, font: u32, code: u8) -> Sums
+pub fn glyph_sums(stock: &Stock, font: u32, code: u8) -> Sums
     requires { font < length stock.now }
     ensures exact { result ≡ sums_of_glyph stock.now font code }
     ensures small { IsWithin 1 result }
@@ -75,7 +75,7 @@ fn glyph_sums(stock: &Stock, font: u32, code: u8) -> Sums
 
 /// What a font kern adds, and what it expands with the glyph before it.
 #[tactic(auto, unfolding(crate::specs::Adding::sums_of_kern))]
-fn kern_sums(stock: &Stock, width: Sp, left: Option<KernLeft>) -> Sums
+pub fn kern_sums(stock: &Stock, width: Sp, left: Option<KernLeft>) -> Sums
     requires { IsKernOver stock.now left }
     ensures exact { result ≡ sums_of_kern stock.now width left }
     ensures small { IsWithin 1 result }

@@ -17,7 +17,9 @@ mod scan;
 mod step_laws;
 mod sums;
 
+pub use adding::{glyph_sums, kern_sums};
 pub use laws::lines_of_a_group_fit_alike;
 pub use line::{From, LineFit, LineIn, Measure, Piece};
 pub use rule::BreakRule;
 pub use step_laws::fonts_that_give_have_steps;
+pub use sums::{Sums, where_order};

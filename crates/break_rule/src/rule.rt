@@ -178,6 +178,15 @@ impl<'a> BreakRule<'a> {
         self.closing(to).penalty
     }
 
+    /// The item with which a line begins: behind a break, and behind what vanishes there. It may be
+    /// past the place at which the line ends.
+    pub fn begin(&self, from: From) -> u32
+        requires { IsFrom self.now from }
+        ensures { result ≡ begin_of self.now.items from }
+    {
+        self.opening(from).begin
+    }
+
     /// What the line from a break to a legal place adds up to. Where the line begins past its end,
     /// the difference of the sums has the sign that it has.
     pub fn measure(&self, from: From, to: u32) -> Measure

@@ -120,8 +120,9 @@ impl Sums {
 }
 
 /// The stretch of a glue where it is of an order.
-fn where_order(glue: Glue, order: u8) -> i64
-    ensures { result ≡ where_order_of order glue }
+pub fn where_order(glue: Glue, order: u8) -> i64
+    ensures exact { result ≡ where_order_of order glue }
+    ensures small { unsigned_abs result ≤ 2 ^ 31 }
 {
     if glue.order == order {
         glue.stretch as i64

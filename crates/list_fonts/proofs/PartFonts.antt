@@ -1,7 +1,8 @@
 -- The fonts of a paragraph's list are those in which its parts stand.
 --     list_names             the fonts of the list pass every test that those pass
 --     paragraph_shares       so where those expand alike, the list's do
-use Rattle.std.proofs.Common.{◌≡◌, ℕ, ◌-◌, ℤ, pos, Bool, true, false, List, [], ◌∷◌, ◌++◌, length, take, refl, ap, sym, subst, ◌∙◌, ◌<ℤ◌, int_lt, not, find, arith}
+--     built_shares           as building answers it
+use Rattle.std.proofs.Common.{◌≡◌, ◌⊎◌, inl, inr, ℕ, ◌-◌, ℤ, pos, Bool, true, false, List, [], ◌∷◌, ◌++◌, length, take, refl, ap, sym, subst, ◌∙◌, ◌<ℤ◌, int_lt, not, find, arith}
 use Rattle.std.specs.Prelude.{⊤, Option, Some, None, Result, Ok, Err, slice_get, flat_map, nat_lt, All, option_and_then, option_map, option_to_list, if◌then◌else◌}
 use Rattle.std.proofs.lemmas.Int.{ints}
 use Rattle.std.proofs.lemmas.List.Elements.{All-nil, All-cons, All-head, All-tail, All-append, All-take}
@@ -35,7 +36,7 @@ use Rattle.hlist_build.specs.Runs.{left_of, sub_of, subs_of, item_of, ends_in_hy
 use Rattle.hlist_build.specs.Spaces.{normal_space, extra_space, current_in}
 use Rattle.hlist_build.specs.declared.current.Current.{Current}
 use Rattle.hlist_build.specs.declared.fault.ParFault.{ParFault}
-use Rattle.hlist_build.specs.declared.fault.ParFault.TheVariants.{TooManyItems}
+use Rattle.hlist_build.specs.declared.fault.ParFault.TheVariants.{TooManyItems, NoMemory}
 use Rattle.hlist_build.specs.declared.mixing.Expanding.{Expanding}
 use Rattle.hlist_build.proofs.PartLemmas.{font-push}
 use Rattle.hlist_hyph.specs.Fonts.{PassesLeft, PassesSub, Passes}
@@ -399,3 +400,9 @@ paragraph_shares par tables stock list is = λ level.
     let model = first-fits stock (standing None par.parts) (alike-first par tables stock list is level) in
     share_from_fonts par.params stock model.0 list.items
     (list_names (fits_in stock model.0) par tables stock list model.1 is) level
+
+-- the list that building answers
+pub built_shares : (par : Par) (tables : Tables) (stock : List Font) (list : HList)
+    → (Ok list ≡ list_of par tables stock) ⊎ (Ok list ≡ Err NoMemory) → Share par.params stock list.items
+built_shares par tables stock list (inl is) = paragraph_shares par tables stock list (sym is)
+built_shares par tables stock list (inr is) = absurd (cc)
