@@ -1,20 +1,23 @@
 //! The cases of horizontal lists and of hyphenated lists: the list of each paragraph of a job, or
-//! its first fault.
+//! its first fault; and the cases of fits, which ask about the lines of these lists.
 ghost use Rattle.std.specs.Prelude.{◌<◌, ◌^◌, All, IsTrue, length};
 ghost use Rattle.font_stock.specs.Sizes.{IsSize};
-ghost use Rattle.hlist.specs.Bounds.{IsSmall, IsListOf};
+ghost use Rattle.hlist.specs.Bounds.{IsSmall, IsInBounds, IsListOf};
 ghost use Rattle.hlist_build.specs.Parts.{NamesFont};
+ghost use Rattle.break_rule.specs.Over.{Share};
 
 use crate::bytes::bytes_of;
+use crate::fits::{Lines, fits_text};
 use crate::items_text::items_text;
 use crate::tfm::font_bytes;
 use font_stock::{Font, FontRefused, Stock};
-use hlist::HList;
+use hlist::{HList, small_lists_are_in_bounds};
 use hlist_build::{ParFault, build};
 use hlist_hyph::hyphenated;
 use job_text::{FontDecl, Job, JobFault};
 use liang_hyph::Patterns;
-use micro_num::{NoMemory, Par, Params, Part, PartAt, Tables};
+use list_fonts::{fonts_of_a_paragraph_expand_alike, lists_of_the_same_fonts_expand_alike};
+use micro_num::{NoMemory, Par, Part, PartAt, Tables};
 use std::alloc::{AllocError, Global};
 use std::rt::Files;
 use tfm_read::{TfmFault, read_tfm};
@@ -28,12 +31,54 @@ pub enum Form {
     Hyphenated,
 }
 
+/// What a case asks of its lists.
+#[derive(Clone, Copy, Debug, PartialEq, Eq)]
+pub enum Asked {
+    /// Their items.
+    Items,
+    /// Places and lines.
+    Fits { lines: Lines },
+}
+
+/// What some lines measure and how they fit, in the lists of a job; `left` is
+/// `EMERGENCY FORM NUMBER` and the job.
+pub fn fits_answer<R: Files>(
+    rt: &R,
+    alloc: Global,
+    left: &str,
+) -> Result<Option<String>, AllocError> {
+    match asked_fits(left) {
+        Some((form, lines, job)) => answer(rt, alloc, form, Asked::Fits { lines }, job),
+        None => Ok(None),
+    }
+}
+
+/// The lists and the lines that a case of fits is about, and its job.
+fn asked_fits(left: &str) -> Option<(Form, Lines, &str)> {
+    let (emergency, rest) = left.split_once(' ')?;
+    let (form, rest) = rest.split_once(' ')?;
+    let (number, job) = rest.split_once(' ')?;
+    let emergency = match emergency {
+        "0" => false,
+        "1" => true,
+        _ => return None,
+    };
+    let form = match form {
+        "built" => Form::Built,
+        "hyphenated" => Form::Hyphenated,
+        _ => return None,
+    };
+    let number = number.parse::<u32>().ok()?;
+    Some((form, Lines { emergency, number }, job))
+}
+
 /// The lists of the job that the bytes spell which `left` gives in hexadecimal, or why there are
 /// none.
 pub fn answer<R: Files>(
     rt: &R,
     alloc: Global,
     form: Form,
+    asked: Asked,
     left: &str,
 ) -> Result<Option<String>, AllocError> {
     let Some(bytes) = bytes_of(alloc, left)? else {
@@ -43,7 +88,7 @@ pub fn answer<R: Files>(
         return Ok(None);
     }
     match job_text::read_job(alloc, &bytes) {
-        Ok(job) => job_answer(rt, alloc, form, job),
+        Ok(job) => job_answer(rt, alloc, form, asked, job),
         Err(JobFault::At { offset, kind }) => {
             let number = kind.number();
             Ok(Some(format!(in alloc; "job {number} {offset}")?))
@@ -57,6 +102,7 @@ fn job_answer<R: Files>(
     rt: &R,
     alloc: Global,
     form: Form,
+    asked: Asked,
     job: Job,
 ) -> Result<Option<String>, AllocError>
     requires { All (λ font. IsSize font.size) job.fonts }
@@ -78,7 +124,7 @@ fn job_answer<R: Files>(
                 return Ok(None);
             }
             let stock = Stock::make(fonts);
-            lists_text(alloc, form, pars.as_slice(), &tables, &table, &stock)
+            lists_text(alloc, form, asked, pars.as_slice(), &tables, &table, &stock)
         }
         Err(refused) => Ok(Some(refused)),
     }
@@ -145,6 +191,7 @@ fn font_of<R: Files>(
 fn lists_text(
     alloc: Global,
     form: Form,
+    asked: Asked,
     pars: &[Par],
     tables: &Tables,
     patterns: &Patterns,
@@ -158,7 +205,7 @@ fn lists_text(
         if !text.is_empty() {
             text.push_str("; ")?;
         }
-        let Some(list) = list_text(alloc, form, par, tables, patterns, stock)? else {
+        let Some(list) = list_text(alloc, form, asked, par, tables, patterns, stock)? else {
             return Ok(None);
         };
         text.push_str(list.as_str())?;
@@ -188,23 +235,45 @@ fn name_fonts(stock: &Stock, parts: &[PartAt]) -> bool
     true
 }
 
-/// The items of a list as it is built, or hyphenated.
+/// What is asked of a list.
+fn told(
+    alloc: Global,
+    asked: Asked,
+    list: &HList,
+    par: &Par,
+    stock: &Stock,
+) -> Result<Option<String>, AllocError>
+    requires bounds { IsInBounds list.now }
+    requires own { IsListOf stock.now list.now }
+    requires share { Share par.now.params stock.now list.now.items }
+{
+    match asked {
+        Asked::Items => Ok(Some(items_text(alloc, list.items.as_slice())?)),
+        Asked::Fits { lines } => fits_text(alloc, lines, list, par, stock),
+    }
+}
+
+/// What is asked of a list as it is built, or hyphenated.
 fn shown(
     alloc: Global,
     form: Form,
+    asked: Asked,
     list: &HList,
-    params: &Params,
+    par: &Par,
     tables: &Tables,
     patterns: &Patterns,
     stock: &Stock,
-) -> Result<String, AllocError>
+) -> Result<Option<String>, AllocError>
     requires small { IsSmall list.now }
     requires own { IsListOf stock.now list.now }
+    requires share { Share par.now.params stock.now list.now.items }
 {
+    small_lists_are_in_bounds();
+    lists_of_the_same_fonts_expand_alike();
     match form {
-        Form::Built => items_text(alloc, list.items.as_slice()),
-        Form::Hyphenated => match hyphenated(alloc, list, params, tables, patterns, stock) {
-            Ok(made) => items_text(alloc, made.items.as_slice()),
+        Form::Built => told(alloc, asked, list, par, stock),
+        Form::Hyphenated => match hyphenated(alloc, list, &par.params, tables, patterns, stock) {
+            Ok(made) => told(alloc, asked, &made, par, stock),
             Err(NoMemory) => Err(AllocError),
         },
     }
@@ -214,6 +283,7 @@ fn shown(
 fn list_text(
     alloc: Global,
     form: Form,
+    asked: Asked,
     par: &Par,
     tables: &Tables,
     patterns: &Patterns,
@@ -222,8 +292,9 @@ fn list_text(
     if !name_fonts(stock, par.parts.as_slice()) {
         return Ok(None);
     }
+    fonts_of_a_paragraph_expand_alike();
     let text = match build(alloc, par, tables, stock) {
-        Ok(list) => shown(alloc, form, &list, &par.params, tables, patterns, stock)?,
+        Ok(list) => return shown(alloc, form, asked, &list, par, tables, patterns, stock),
         Err(ParFault::MissingChar { offset }) => format!(in alloc; "fault 1 {offset}")?,
         Err(ParFault::LigTooLong { offset }) => format!(in alloc; "fault 2 {offset}")?,
         Err(ParFault::TooManyItems) => String::from_str(alloc, "fault 3")?,

@@ -5,6 +5,7 @@
 #![tactic(auto)]
 
 mod bytes;
+mod fits;
 mod fonts;
 mod hyphenation;
 mod items_text;
@@ -15,7 +16,7 @@ mod numbers;
 mod tfm;
 mod tokens;
 
-use crate::lists::Form;
+use crate::lists::{Asked, Form};
 use std::alloc::{AllocError, Global};
 use std::io;
 use std::io::{BufRead, BufReader};
@@ -28,12 +29,13 @@ fn answer<R: Files>(rt: &R, alloc: Global, line: &str) -> Result<Option<String>,
         return Ok(None);
     };
     match kind {
+        "fits" => lists::fits_answer(rt, alloc, left),
         "fonts" => fonts::answer(rt, alloc, left),
         "hyphenation" => hyphenation::answer(alloc, left),
         "jobs" => jobs::answer(alloc, left),
         "ligatures" => ligatures::answer(rt, alloc, left),
-        "hyphenated" => lists::answer(rt, alloc, Form::Hyphenated, left),
-        "lists" => lists::answer(rt, alloc, Form::Built, left),
+        "hyphenated" => lists::answer(rt, alloc, Form::Hyphenated, Asked::Items, left),
+        "lists" => lists::answer(rt, alloc, Form::Built, Asked::Items, left),
         "numbers" => numbers::answer(alloc, left),
         "tfm" => tfm::answer(rt, alloc, left),
         "tokens" => tokens::answer(alloc, left),
