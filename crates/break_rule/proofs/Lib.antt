@@ -7,6 +7,7 @@ mod SharingLaws
 mod LineMargins
 mod MeasureLaws
 mod PieceLaws
+mod PackableLaws
 pub mod Lookups
 pub mod RangeSteps
 mod ScanReads

@@ -8,6 +8,7 @@ pub mod Kept
 pub mod Sharing
 pub mod Between
 pub mod Pieces
+pub mod Packable
 pub mod Made
 pub mod Worked
 pub mod Steps

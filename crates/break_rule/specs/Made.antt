@@ -3,7 +3,7 @@ use Rattle.std.specs.Prelude.{◌≡◌, ℕ, ◌+◌, ◌<◌, ◌≤◌, ◌^�
 use Rattle.std.specs.List.{range_with_len}
 use Rattle.font_stock.specs.declared.expand.Expand.{Expand}
 use Rattle.hlist.specs.declared.item.Item.{Item}
-use Rattle.hlist.specs.Bounds.{BreaksShort}
+use Rattle.hlist.specs.Bounds.{BreaksShort, unbroken_count}
 use Rattle.break_rule.specs.declared.line.From.{From}
 use Rattle.break_rule.specs.declared.line.From.TheVariants.{Start, After}
 use Rattle.break_rule.specs.declared.ends.Opening.{Opening}
@@ -37,6 +37,7 @@ pub record Keeping : Type 0 where
 pub record IsMade (rule : Rule) (kept : Keeping) : Type 0 where
   pub over : IsOver rule.stock rule.items
   pub breaks : All BreaksShort rule.items
+  pub few : unbroken_count rule.items ≤ 65536
   pub short : length rule.items ≤ 65536
   pub hsize : unsigned_abs rule.params.hsize < 2 ^ 30
   pub hangindent : unsigned_abs rule.params.hangindent < 2 ^ 30

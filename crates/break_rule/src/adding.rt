@@ -30,9 +30,26 @@ pub fn item_sums(stock: &Stock, item: &Item) -> Sums
     }
 }
 
-/// What the entries of a discretionary add.
+/// What the entries of a discretionary add. Most often there are none, as nearly all breaks are at
+/// glue.
+#[inline(always)]
 #[tactic(auto, unfolding(crate::specs::Adding::added_subs))]
 pub fn subs_sums(stock: &Stock, subs: &[Sub]) -> Sums
+    requires over { All (IsSubOver stock.now) subs.now }
+    requires short { length subs.now ≤ 65536 }
+    ensures exact { result ≡ added_subs stock.now subs.now }
+    ensures small { IsWithin (length subs.now) result }
+{
+    if subs.is_empty() {
+        Sums::nothing()
+    } else {
+        sums_of_all(stock, subs)
+    }
+}
+
+/// What some entries of a discretionary add.
+#[tactic(auto, unfolding(crate::specs::Adding::added_subs))]
+fn sums_of_all(stock: &Stock, subs: &[Sub]) -> Sums
     requires over { All (IsSubOver stock.now) subs.now }
     requires short { length subs.now ≤ 65536 }
     ensures exact { result ≡ added_subs stock.now subs.now }

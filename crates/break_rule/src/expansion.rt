@@ -25,9 +25,20 @@ fn first_expansion(stock: &Stock, items: &[Item]) -> Option<Expand>
 {
     let mut found = None;
     for item in items {
-        found = first_of(found, item_expansion(stock, item));
+        found = or_item(stock, found, item);
     }
     found
+}
+
+/// What was found, or else how far an item may be expanded, of which nothing is asked else.
+fn or_item(stock: &Stock, found: Option<Expand>, item: &Item) -> Option<Expand>
+    requires { IsItemOver stock.now item.now }
+    ensures { result ≡ option_or found (first_in_item stock.now item.now) }
+{
+    match found {
+        Some(expand) => Some(expand),
+        None => item_expansion(stock, item),
+    }
 }
 
 /// The first of two expansions where there is one, else the second.

@@ -29,6 +29,7 @@ pub struct Stop {
 }
 
 /// How far an item hangs out where no line ends in it, None where the search passes it.
+#[inline(always)]
 pub fn item_margin(side: Side, stock: &Stock, item: &Item) -> Option<i64>
     requires { IsItemOver stock.now item.now }
     ensures exact { result ≡ margin_of_item side stock.now item.now }
@@ -121,6 +122,7 @@ fn width_margin(width: Sp) -> Option<i64>
 }
 
 /// How far a character or ligature hangs out.
+#[inline(always)]
 #[tactic(auto, unfolding(crate::specs::Lines::hang_of_glyph))]
 fn glyph_hang(side: Side, stock: &Stock, font: u32, code: u8) -> i64
     requires { font < length stock.now }

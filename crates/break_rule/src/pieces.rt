@@ -1,8 +1,9 @@
 //! What a line hands to packing: its margins' glue and hangs, and what each item gives between
 //! them (pdfTeX manual, `\\pdfprotrudechars`).
-ghost use Rattle.std.specs.Prelude.{◌≡◌, ◌++◌, ◌≤◌, ◌^◌, IfOk, OnOk, flat_map, map, unsigned_abs};
+ghost use Rattle.std.specs.Prelude.{◌≡◌, ◌++◌, ◌≤◌, ◌^◌, All, IfOk, OnOk, flat_map, unsigned_abs};
 ghost use Rattle.break_rule.specs.Lines.{pieces_of, piece_of_kern, unbroken, as_item};
 ghost use Rattle.break_rule.specs.Lines.{moved as moved_by};
+ghost use Rattle.break_rule.specs.Packable.{IsSmallMove};
 ghost use Rattle.break_rule.specs.Pieces.{pieces_between, pieces_of_items, pieces_of_subs};
 ghost use Rattle.break_rule.specs.Pieces.{piece_of_sub};
 ghost use Rattle.break_rule.specs.declared.line.Piece.TheVariants.{Move};
@@ -33,8 +34,9 @@ pub fn line_between(
 ) -> Result<Items<Piece>, NoMemory>
     requires left { unsigned_abs hangs.left ≤ 2 ^ 31 }
     requires right { unsigned_abs hangs.right ≤ 2 ^ 31 }
-    ensures { IfOk result (λ pieces. pieces
+    ensures exact { IfOk result (λ pieces. pieces
         ≡ pieces_between params.now post.now middle.now pre.now hangs.left hangs.right) }
+    ensures small { IfOk result (λ pieces. All IsSmallMove pieces) }
 {
     let mut pieces = Items::new(alloc);
     pieces.push(Piece::Space {
@@ -54,7 +56,8 @@ pub fn line_between(
 /// The move out into a margin, where characters may protrude.
 fn moved(params: &Params, hang: i64) -> Piece
     requires { unsigned_abs hang ≤ 2 ^ 31 }
-    ensures { result ≡ Move (moved_by params.now hang) }
+    ensures exact { result ≡ Move (moved_by params.now hang) }
+    ensures small { IsSmallMove result }
 {
     if params.pdfprotrudechars > 0 {
         Piece::Move { width: -hang }
@@ -65,7 +68,9 @@ fn moved(params: &Params, hang: i64) -> Piece
 
 /// What the items of a line give.
 fn push_items(pieces: &mut Items<Piece>, items: &[Item]) -> Result<(), NoMemory>
-    ensures { OnOk result (pieces.new ≡ pieces.old ++ pieces_of_items items.now) }
+    requires { All IsSmallMove pieces.old }
+    ensures exact { OnOk result (pieces.new ≡ pieces.old ++ pieces_of_items items.now) }
+    ensures small { OnOk result (All IsSmallMove pieces.new) }
 {
     for item in items {
         push_item(pieces, item)?;
@@ -76,7 +81,10 @@ fn push_items(pieces: &mut Items<Piece>, items: &[Item]) -> Result<(), NoMemory>
 /// What an item gives where no line ends in it.
 #[tactic(auto, using(crate::proofs::PieceLaws::of_subs))]
 fn push_item(pieces: &mut Items<Piece>, item: &Item) -> Result<(), NoMemory>
-    ensures { OnOk result (pieces.new ≡ pieces.old ++ flat_map pieces_of (unbroken item.now)) }
+    requires { All IsSmallMove pieces.old }
+    ensures exact { OnOk result (pieces.new
+        ≡ pieces.old ++ flat_map pieces_of (unbroken item.now)) }
+    ensures small { OnOk result (All IsSmallMove pieces.new) }
 {
     match item {
         Item::Char { font, code } => pieces.push(Piece::Glyph {
@@ -103,7 +111,9 @@ fn push_item(pieces: &mut Items<Piece>, item: &Item) -> Result<(), NoMemory>
 
 /// What the entries of a discretionary give.
 fn push_subs(pieces: &mut Items<Piece>, subs: &[Sub]) -> Result<(), NoMemory>
-    ensures { OnOk result (pieces.new ≡ pieces.old ++ pieces_of_subs subs.now) }
+    requires { All IsSmallMove pieces.old }
+    ensures exact { OnOk result (pieces.new ≡ pieces.old ++ pieces_of_subs subs.now) }
+    ensures small { OnOk result (All IsSmallMove pieces.new) }
 {
     for sub in subs {
         pieces.push(sub_piece(sub))?;
@@ -113,7 +123,8 @@ fn push_subs(pieces: &mut Items<Piece>, subs: &[Sub]) -> Result<(), NoMemory>
 
 /// What an entry of a discretionary gives.
 fn sub_piece(sub: &Sub) -> Piece
-    ensures { result ≡ piece_of_sub sub.now }
+    ensures exact { result ≡ piece_of_sub sub.now }
+    ensures small { IsSmallMove result }
 {
     match sub {
         Sub::Char { font, code } => Piece::Glyph {
@@ -130,7 +141,8 @@ fn sub_piece(sub: &Sub) -> Piece
 
 /// What a kern of a font gives: a move that expands with the glyph before it, where there is one.
 fn font_kern(width: Sp, left: Option<KernLeft>) -> Piece
-    ensures { result ≡ piece_of_kern width left }
+    ensures exact { result ≡ piece_of_kern width left }
+    ensures small { IsSmallMove result }
 {
     match left {
         Some(left) => Piece::FontMove {

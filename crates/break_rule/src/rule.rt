@@ -16,7 +16,8 @@ ghost use Rattle.break_rule.specs.Kept.{opening_of, closing_of};
 ghost use Rattle.break_rule.specs.Lines.{measure_of, measure_sums, line_pieces, left_hang};
 ghost use Rattle.break_rule.specs.Lines.{right_hang, pre_of, post_of};
 ghost use Rattle.break_rule.specs.Made.{IsPlace, IsFrom, IsWithinList};
-ghost use Rattle.break_rule.specs.Over.{IsOver, Share};
+ghost use Rattle.break_rule.specs.Over.{IsOver, IsSubOver, Share};
+ghost use Rattle.break_rule.specs.Packable.{IsPackable};
 ghost use Rattle.break_rule.specs.Places.{legal_of, penalty_of, begin_of};
 
 use crate::ends::{Closing, Opening};
@@ -213,7 +214,7 @@ impl<'a> BreakRule<'a> {
 
     /// What the line from a break to a legal place hands to packing: the glue and the hangs at its
     /// margins, and what stands between them. The fonts may be expanded where `pdfadjustspacing` is
-    /// above 0.
+    /// above 0. Packing takes each such line (`IsPackable`).
     #[tactic(auto, unfolding(crate::specs::Lines::line_pieces))]
     pub fn line_in(&self, alloc: Global, from: From, to: u32) -> Result<LineIn, NoMemory>
         requires from { IsFrom self.now from }
@@ -222,6 +223,7 @@ impl<'a> BreakRule<'a> {
             ≡ line_pieces self.now.params self.now.stock self.now.items from to) }
         ensures expand { IfOk result (λ line.
             line.expand ≡ int_lt (pos 0) self.now.params.pdfadjustspacing) }
+        ensures packable { IfOk result (λ line. IsPackable self.now.stock line.pieces) }
     {
         let items = self.list.items.as_slice();
         let hangs = self.hangs(from, to);
@@ -331,7 +333,9 @@ fn post_behind<'a>(stock: &Stock, items: &'a [Item], from: From) -> &'a [Sub]
     requires over { IsOver stock.now items.now }
     requires breaks { All BreaksShort items.now }
     requires within { IsWithinList items.now from }
-    ensures { result.now ≡ post_of items.now from }
+    ensures exact { result.now ≡ post_of items.now from }
+    ensures over { All (IsSubOver stock.now) result.now }
+    ensures short { length result.now ≤ 32768 }
 {
     match from {
         From::Start => &[],

@@ -59,6 +59,7 @@ invariant_of-result c =
     record {
       over = c.requires.over;
       breaks = c.requires.list.short;
+      few = c.requires.list.few;
       short = short-of c.args.list.now.items _ refl c.requires.list.few;
       hsize = c.requires.hsize;
       hangindent = c.requires.hangindent;

@@ -8,8 +8,8 @@ use Rattle.break_rule.specs.declared.sums.Sums.{Sums}
 use Rattle.break_rule.specs.Adding.{plus, added_subs, sums_of_sub}
 use Rattle.break_rule.specs.Kept.{IsWithin}
 use Rattle.break_rule.proofs.Totals.{added_subs_step, plus-within}
-use Rattle.break_rule.proofs.adding.subs_sums.Invariants.{Keeps}
-use Rattle.break_rule.proofs.adding.subs_sums.Goals as goal
+use Rattle.break_rule.proofs.adding.sums_of_all.Invariants.{Keeps}
+use Rattle.break_rule.proofs.adding.sums_of_all.Goals as goal
 
 grows : (stock : List Font) (subs : List Sub) (i : ℕ) (sub : Sub) (sums own : Sums) → slice_get subs i ≡ Some sub
     → Keeps stock subs i sums → own ≡ sums_of_sub stock sub → IsWithin 1 own → Keeps stock subs (i + 1) (plus sums own)

@@ -4,7 +4,7 @@ use Rattle.hlist.specs.declared.item.Sub.{Sub}
 use Rattle.break_rule.specs.declared.sums.Sums.{Sums}
 use Rattle.break_rule.specs.Adding.{added_subs}
 use Rattle.break_rule.specs.Kept.{IsWithin}
-use Rattle.break_rule.proofs.adding.subs_sums.Given as goal
+use Rattle.break_rule.proofs.adding.sums_of_all.Given as goal
 
 -- what the entries so far add, and how large that is
 pub record Keeps (stock : List Font) (subs : List Sub) (index : ℕ) (sums : Sums) : Type 0 where
