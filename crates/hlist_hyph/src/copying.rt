@@ -1,7 +1,7 @@
 //! Copies of items, whose types aren't `Copy`.
 ghost use Rattle.std.specs.Prelude.{◌≡◌, ◌++◌, IfOk, OnOk};
 
-use hlist::{Item, Sub};
+use hlist::{HList, Item, Sub};
 use items::Items;
 use micro_num::Disc;
 use std::alloc::{AllocError, Global};
@@ -80,4 +80,13 @@ pub fn push_copies(alloc: Global, list: &mut Items<Item>, items: &[Item]) -> Res
         list.push(copy_item(alloc, item)?)?;
     }
     Ok(())
+}
+
+/// A copy of a list.
+pub fn copied(alloc: Global, list: &HList) -> Result<HList, AllocError>
+    ensures { IfOk result (λ twin. twin ≡ list.now) }
+{
+    let copy = |item: &Item| copy_item(alloc, item);
+    let items = Items::from_copies(alloc, list.items.as_slice(), copy)?;
+    Ok(HList { items })
 }

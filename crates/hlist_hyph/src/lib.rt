@@ -18,6 +18,7 @@ mod setting;
 mod splitting;
 mod word;
 
+pub use copying::copied;
 pub use hyphenating::hyphenated;
 pub use laws::{
     fixed_items_stay, listed_fonts_are_below, only_discretionaries_are_new,

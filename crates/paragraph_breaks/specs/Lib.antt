@@ -1,0 +1,4 @@
+pub mod Passes
+pub mod Nearness
+pub mod WayNodes
+pub mod Outcome
