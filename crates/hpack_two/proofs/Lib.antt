@@ -1,0 +1,13 @@
+pub mod Stored
+pub mod Fonts
+pub mod Cells
+pub mod Lists
+pub mod NextPieces
+pub mod RoundedSizes
+pub mod Placing
+pub mod PenSteps
+pub mod PlacedPieces
+pub mod Instances
+pub mod StockBases
+pub mod Choices
+pub mod SetLines

@@ -1,0 +1,9 @@
+pub mod Widths
+pub mod Glue
+pub mod Lines
+pub mod Over
+pub mod Choosing
+pub mod Pens
+pub mod Answers
+pub mod Steps
+pub mod Worked
