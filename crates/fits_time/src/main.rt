@@ -1,11 +1,13 @@
 //! Times how the lines of a job's paragraphs fit, and how its paragraphs are broken.
 //!
 //! It reads the file `job` and its fonts in the current folder and builds the list of each
-//! paragraph. It asks how each line fits from a place from which none before was overfull, to each
-//! place after it; and it breaks the list in one pass, with `tolerance`, that has to reach the end.
-//! It prints the count of paragraphs, of items, of legal places, of fits, the sum of their
-//! badnesses, and the count of lines; and the nanoseconds that making what is kept of all lists
-//! took, the fits, and the passes. Without a job it prints nothing.
+//! paragraph, and breaks it by the passes that it needs. Besides, it asks how each line fits from a
+//! place from which none before was overfull, to each place after it; and it breaks the list in one
+//! pass, with `tolerance`, that has to reach the end. It prints the count of paragraphs, of items,
+//! of legal places, of fits, the sum of their badnesses, and the counts of lines of that pass and
+//! of the paragraphs as they are broken; and the nanoseconds that building took, breaking, making
+//! what is kept of all lists for one pass, the fits, and the passes. Without a job it prints
+//! nothing.
 #![tactic(auto)]
 
 mod asking;
@@ -13,7 +15,7 @@ mod stock;
 
 ghost use Rattle.std.specs.Prelude.{◌≡◌, ◌<◌, ◌≤◌, ◌^◌, All, IsTrue, false, length, unsigned_abs};
 ghost use Rattle.font_stock.specs.Sizes.{IsSize};
-ghost use Rattle.hlist.specs.Bounds.{IsInBounds, IsListOf};
+ghost use Rattle.hlist.specs.Bounds.{IsInBounds, IsListOf, IsSmall};
 ghost use Rattle.hlist_build.specs.Parts.{NamesFont};
 ghost use Rattle.break_rule.specs.Over.{Share};
 
@@ -25,8 +27,10 @@ use font_stock::Stock;
 use hlist::{HList, small_lists_are_in_bounds};
 use hlist_build::{ParFault, build};
 use job_text::{Job, read_job};
+use liang_hyph::Patterns;
 use list_fonts::{fonts_of_a_paragraph_expand_alike, lists_of_a_stock_are_over_it};
 use micro_num::{NoMemory, Par, Part, PartAt, Sp, Tables};
+use paragraph_breaks::breaks;
 use std::alloc::Global;
 use std::io;
 use std::rt::Files;
@@ -39,6 +43,9 @@ struct Totals {
     places: u64,
     asked: Asked,
     lines: u64,
+    broken: u64,
+    build: u64,
+    breaks: u64,
     make: u64,
     fits: u64,
     pass: u64,
@@ -144,12 +151,46 @@ fn time_pass<C: Clock>(
     Ok(())
 }
 
-/// Builds a paragraph's list, and times its fits.
+/// Times how a paragraph's list is broken.
+fn time_breaks<C: Clock>(
+    clock: &C,
+    alloc: Global,
+    list: &HList,
+    par: &Par,
+    tables: &Tables,
+    patterns: &Patterns,
+    stock: &Stock,
+    totals: &mut Totals,
+) -> io::Result<()>
+    requires small { IsSmall list.now }
+    requires own { IsListOf stock.now list.now }
+    requires share { Share par.now.params stock.now list.now.items }
+{
+    let shape = par.shape.as_slice();
+    if is_past(par.params.hsize) {
+        return Err(io::Error::from(io::ErrorKind::InvalidData));
+    }
+    if is_past(par.params.hangindent) {
+        return Err(io::Error::from(io::ErrorKind::InvalidData));
+    }
+    if shape.len() >= 1 << 32 {
+        return Err(io::Error::from(io::ErrorKind::InvalidData));
+    }
+    let start = Instant::now(clock)?;
+    let broken = breaks(alloc, list, &par.params, shape, tables, patterns, stock);
+    let broken = broken.map_err(no_memory)?;
+    totals.breaks = totals.breaks.saturating_add(since(clock, &start)?);
+    totals.broken = totals.broken.saturating_add(broken.breaks.len() as u64);
+    Ok(())
+}
+
+/// Times how a paragraph's list is built and broken, and then its fits.
 fn time_one<C: Clock>(
     clock: &C,
     alloc: Global,
     par: &Par,
     tables: &Tables,
+    patterns: &Patterns,
     stock: &Stock,
     totals: &mut Totals,
 ) -> io::Result<()>
@@ -157,8 +198,13 @@ fn time_one<C: Clock>(
 {
     small_lists_are_in_bounds();
     fonts_of_a_paragraph_expand_alike();
+    let start = Instant::now(clock)?;
     match build(alloc, par, tables, stock) {
-        Ok(list) => time_list(clock, alloc, &list, par, stock, totals),
+        Ok(list) => {
+            totals.build = totals.build.saturating_add(since(clock, &start)?);
+            time_breaks(clock, alloc, &list, par, tables, patterns, stock, totals)?;
+            time_list(clock, alloc, &list, par, stock, totals)
+        }
         Err(fault) => Err(lost(fault)),
     }
 }
@@ -169,6 +215,7 @@ fn time_all<C: Clock>(
     alloc: Global,
     pars: &[Par],
     tables: &Tables,
+    patterns: &Patterns,
     stock: &Stock,
 ) -> io::Result<Totals> {
     let mut totals = Totals {
@@ -179,6 +226,9 @@ fn time_all<C: Clock>(
             badness: 0,
         },
         lines: 0,
+        broken: 0,
+        build: 0,
+        breaks: 0,
         make: 0,
         fits: 0,
         pass: 0,
@@ -187,7 +237,7 @@ fn time_all<C: Clock>(
         if !name_fonts(stock, par.parts.as_slice()) {
             return Err(io::Error::from(io::ErrorKind::InvalidData));
         }
-        time_one(clock, alloc, par, tables, stock, &mut totals)?;
+        time_one(clock, alloc, par, tables, patterns, stock, &mut totals)?;
     }
     Ok(totals)
 }
@@ -203,13 +253,16 @@ fn time_job<R: Files + Clock>(
     let Job {
         fonts,
         tables,
+        patterns,
+        exceptions,
         pars,
-        ..
     } = job;
+    let patterns = Patterns::make(alloc, patterns.as_slice(), exceptions.as_slice());
+    let patterns = patterns.map_err(no_memory)?;
     let Some(stock) = stock_of(rt, alloc, fonts.into_vec())? else {
         return Ok(None);
     };
-    let totals = time_all(rt, alloc, pars.as_slice(), &tables, &stock)?;
+    let totals = time_all(rt, alloc, pars.as_slice(), &tables, &patterns, &stock)?;
     Ok(Some((pars.len(), totals)))
 }
 
@@ -231,12 +284,15 @@ fn main(rt: HostRuntime) -> io::Result<()> {
         places,
         asked,
         lines,
+        broken,
+        build,
+        breaks,
         make,
         fits,
         pass,
     } = totals;
     let Asked { count, badness } = asked;
     print!(rt; "paragraphs {paragraphs} items {items} places {places} ")?;
-    print!(rt; "asked {count} badness {badness} lines {lines} ")?;
-    println!(rt; "make {make} fits {fits} pass {pass}")
+    print!(rt; "asked {count} badness {badness} lines {lines} broken {broken} ")?;
+    println!(rt; "build {build} breaks {breaks} make {make} fits {fits} pass {pass}")
 }
