@@ -1,14 +1,17 @@
 //! The cases of horizontal lists and of hyphenated lists: the list of each paragraph of a job, or
-//! its first fault; and the cases of fits, which ask about the lines of these lists.
+//! its first fault; the cases of fits, which ask about the lines of these lists; and the cases of
+//! breaks and of lines, which ask how they are broken, and packed.
 ghost use Rattle.std.specs.Prelude.{◌<◌, ◌^◌, All, IsTrue, length};
 ghost use Rattle.font_stock.specs.Sizes.{IsSize};
 ghost use Rattle.hlist.specs.Bounds.{IsSmall, IsInBounds, IsListOf};
 ghost use Rattle.hlist_build.specs.Parts.{NamesFont};
 ghost use Rattle.break_rule.specs.Over.{Share};
 
+use crate::breaks_text::breaks_text;
 use crate::bytes::bytes_of;
 use crate::fits::{Lines, fits_text};
 use crate::items_text::items_text;
+use crate::set_lines::lines_text as set_lines_text;
 use crate::tfm::font_bytes;
 use font_stock::{Font, FontRefused, Stock};
 use hlist::{HList, small_lists_are_in_bounds};
@@ -38,6 +41,10 @@ pub enum Asked {
     Items,
     /// Places and lines.
     Fits { lines: Lines },
+    /// How the lists that are built are broken.
+    Breaks,
+    /// The lines that they are broken into, packed.
+    Lines,
 }
 
 /// What some lines measure and how they fit, in the lists of a job; `left` is
@@ -197,6 +204,9 @@ fn lists_text(
     patterns: &Patterns,
     stock: &Stock,
 ) -> Result<Option<String>, AllocError> {
+    if asked == Asked::Lines {
+        return set_lines_text(alloc, pars, tables, patterns, stock);
+    }
     if pars.is_empty() {
         return Ok(Some(String::from_str(alloc, "none")?));
     }
@@ -224,7 +234,7 @@ fn names_font(stock: &Stock, part: &Part) -> bool
 }
 
 /// Whether each part names a font of the stock, if it names one.
-fn name_fonts(stock: &Stock, parts: &[PartAt]) -> bool
+pub fn name_fonts(stock: &Stock, parts: &[PartAt]) -> bool
     ensures { IsTrue result → All (λ one. NamesFont (length stock.now) one.part) parts.now }
 {
     for one in parts {
@@ -235,7 +245,7 @@ fn name_fonts(stock: &Stock, parts: &[PartAt]) -> bool
     true
 }
 
-/// What is asked of a list.
+/// The items of a list, or what is asked of its lines.
 fn told(
     alloc: Global,
     asked: Asked,
@@ -248,12 +258,12 @@ fn told(
     requires share { Share par.now.params stock.now list.now.items }
 {
     match asked {
-        Asked::Items => Ok(Some(items_text(alloc, list.items.as_slice())?)),
         Asked::Fits { lines } => fits_text(alloc, lines, list, par, stock),
+        _ => Ok(Some(items_text(alloc, list.items.as_slice())?)),
     }
 }
 
-/// What is asked of a list as it is built, or hyphenated.
+/// How a list is broken, or else what is asked of it as it is built, or hyphenated.
 fn shown(
     alloc: Global,
     form: Form,
@@ -268,6 +278,9 @@ fn shown(
     requires own { IsListOf stock.now list.now }
     requires share { Share par.now.params stock.now list.now.items }
 {
+    if asked == Asked::Breaks {
+        return breaks_text(alloc, par, list, tables, patterns, stock);
+    }
     small_lists_are_in_bounds();
     lists_of_the_same_fonts_expand_alike();
     match form {
@@ -293,14 +306,21 @@ fn list_text(
         return Ok(None);
     }
     fonts_of_a_paragraph_expand_alike();
-    let text = match build(alloc, par, tables, stock) {
-        Ok(list) => return shown(alloc, form, asked, &list, par, tables, patterns, stock),
-        Err(ParFault::MissingChar { offset }) => format!(in alloc; "fault 1 {offset}")?,
-        Err(ParFault::LigTooLong { offset }) => format!(in alloc; "fault 2 {offset}")?,
-        Err(ParFault::TooManyItems) => String::from_str(alloc, "fault 3")?,
-        Err(ParFault::MixedExpansion { font }) => format!(in alloc; "fault 4 {font}")?,
-        Err(ParFault::OutOfRange { line }) => format!(in alloc; "fault 5 {line}")?,
-        Err(ParFault::NoMemory) => return Err(AllocError),
-    };
-    Ok(Some(text))
+    match build(alloc, par, tables, stock) {
+        Ok(list) => shown(alloc, form, asked, &list, par, tables, patterns, stock),
+        Err(ParFault::NoMemory) => Err(AllocError),
+        Err(fault) => Ok(Some(fault_text(alloc, fault)?)),
+    }
+}
+
+/// The first fault of a paragraph.
+pub fn fault_text(alloc: Global, fault: ParFault) -> Result<String, AllocError> {
+    match fault {
+        ParFault::MissingChar { offset } => format!(in alloc; "fault 1 {offset}"),
+        ParFault::LigTooLong { offset } => format!(in alloc; "fault 2 {offset}"),
+        ParFault::TooManyItems => String::from_str(alloc, "fault 3"),
+        ParFault::MixedExpansion { font } => format!(in alloc; "fault 4 {font}"),
+        ParFault::OutOfRange { line } => format!(in alloc; "fault 5 {line}"),
+        ParFault::NoMemory => Err(AllocError),
+    }
 }

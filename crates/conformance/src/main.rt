@@ -4,6 +4,7 @@
 //! agree with it. A line of an unknown kind or out of form is answered `unknown`.
 #![tactic(auto)]
 
+mod breaks_text;
 mod bytes;
 mod fits;
 mod fonts;
@@ -13,6 +14,7 @@ mod jobs;
 mod ligatures;
 mod lists;
 mod numbers;
+mod set_lines;
 mod tfm;
 mod tokens;
 
@@ -29,11 +31,13 @@ fn answer<R: Files>(rt: &R, alloc: Global, line: &str) -> Result<Option<String>,
         return Ok(None);
     };
     match kind {
+        "breaks" => lists::answer(rt, alloc, Form::Built, Asked::Breaks, left),
         "fits" => lists::fits_answer(rt, alloc, left),
         "fonts" => fonts::answer(rt, alloc, left),
         "hyphenation" => hyphenation::answer(alloc, left),
         "jobs" => jobs::answer(alloc, left),
         "ligatures" => ligatures::answer(rt, alloc, left),
+        "lines" => lists::answer(rt, alloc, Form::Built, Asked::Lines, left),
         "hyphenated" => lists::answer(rt, alloc, Form::Hyphenated, Asked::Items, left),
         "lists" => lists::answer(rt, alloc, Form::Built, Asked::Items, left),
         "numbers" => numbers::answer(alloc, left),
