@@ -1,0 +1,5 @@
+pub mod LineTurns
+pub mod AskedCells
+pub mod LineCounts
+pub mod WholePages
+pub mod OneLine

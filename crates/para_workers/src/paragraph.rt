@@ -1,0 +1,94 @@
+//! A paragraph as a page.
+ghost use Rattle.std.specs.Prelude.{◌≡◌, ◌⊎◌, ◌<◌, ◌^◌, All, Err, length, map};
+ghost use Rattle.hlist.specs.Bounds.{IsListOf, IsSmall};
+ghost use Rattle.hlist_build.specs.Parts.{NamesFont};
+ghost use Rattle.hlist_build.specs.declared.fault.ParFault.TheVariants.{NoMemory};
+ghost use Rattle.break_rule.specs.Over.{Share};
+ghost use Rattle.hpack_two.specs.Over.{base_of};
+ghost use Rattle.para_workers.specs.Lengths.{HasLengths};
+ghost use Rattle.para_workers.specs.SetPar.{lines_of_par, lines_of, page_by, paragraph_of};
+ghost use Rattle.para_workers.specs.SetPar.{set_par as page_of_par};
+ghost use Rattle.para_workers.specs.Touched.{TouchedByPage};
+
+use crate::lines::packed_lines;
+use crate::page::page;
+use break_rule::BreakRule;
+use font_stock::Stock;
+use hlist::HList;
+use hlist_build::{ParFault, build};
+use instance_core::{Page, WidthSource};
+use liang_hyph::Patterns;
+use micro_num::{Par, Tables};
+use paragraph_breaks::breaks;
+use std::alloc::Global;
+
+/// The page of a paragraph's list.
+fn set_list<W: WidthSource>(
+    alloc: Global,
+    par: &Par,
+    list: &HList,
+    tables: &Tables,
+    patterns: &Patterns,
+    stock: &Stock,
+    source: &mut W,
+) -> Result<Page, ParFault>
+    requires small { IsSmall list.now }
+    requires own { IsListOf stock.now list.now }
+    requires share { Share par.now.params stock.now list.now.items }
+    requires lengths { HasLengths par.now.params par.now.shape }
+    requires shape { length par.now.shape < 2 ^ 32 }
+    requires source { W.bases source.old ≡ map base_of stock.now }
+    ensures page { let p = paragraph_of par.now tables.now patterns.now stock.now list.now.items in
+        (result ≡ page_by par.now.params (lines_of p)) ⊎ (result ≡ Err NoMemory) }
+    ensures touched { let items = list.now.items in
+        let p = paragraph_of par.now tables.now patterns.now stock.now items in
+        TouchedByPage (lines_of p) (W.bases source.old)
+        (W.touched source.old) (W.touched source.new) result }
+    ensures bases { W.bases source.new ≡ W.bases source.old }
+    ensures fixed { W.fixed source.new ≡ W.fixed source.old }
+{
+    let params = &par.params;
+    let shape = par.shape.as_slice();
+    let Ok(broken) = breaks(alloc, list, params, shape, tables, patterns, stock) else {
+        return Err(ParFault::NoMemory);
+    };
+    let Ok(rule) = BreakRule::make(alloc, &broken.list, params, shape, stock, false) else {
+        return Err(ParFault::NoMemory);
+    };
+    let lines = packed_lines(alloc, &rule, stock, broken.breaks.as_slice(), source)?;
+    page(alloc, lines, params)
+}
+
+/// The page of a paragraph: its list broken into lines, each of these set in the width and with the
+/// indent that it has by its number, and the set lines one below the other. The lengths of
+/// the parameters and of the shape are within ±(2^30 - 1) sp, and the source's fonts are those of
+/// the stock.
+///
+/// A paragraph without a list is refused as [`build`] refuses it. Else it is refused as
+/// [`ParFault::OutOfRange`] with the number of the first line, counted from 1, in which a glyph is
+/// out of range; where there is none, with that of the first line that is past the bounds of the
+/// page. Besides, there is [`ParFault::NoMemory`].
+///
+/// The source is asked for each glyph that is expanded, and for no other.
+pub fn set_par<W: WidthSource>(
+    alloc: Global,
+    par: &Par,
+    tables: &Tables,
+    patterns: &Patterns,
+    stock: &Stock,
+    source: &mut W,
+) -> Result<Page, ParFault>
+    requires names { All (λ one. NamesFont (length stock.now) one.part) par.now.parts }
+    requires lengths { HasLengths par.now.params par.now.shape }
+    requires shape { length par.now.shape < 2 ^ 32 }
+    requires source { W.bases source.old ≡ map base_of stock.now }
+    ensures page { (result ≡ page_of_par par.now tables.now patterns.now stock.now)
+        ⊎ (result ≡ Err NoMemory) }
+    ensures touched { TouchedByPage (lines_of_par par.now tables.now patterns.now stock.now)
+        (W.bases source.old) (W.touched source.old) (W.touched source.new) result }
+    ensures bases { W.bases source.new ≡ W.bases source.old }
+    ensures fixed { W.fixed source.new ≡ W.fixed source.old }
+{
+    let list = build(alloc, par, tables, stock)?;
+    set_list(alloc, par, &list, tables, patterns, stock, source)
+}
