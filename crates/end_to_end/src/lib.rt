@@ -1,11 +1,13 @@
 //! Whole runs, over files and outputs in memory: jobs with their answers, and an outside that
-//! fails; and the fonts that they are set in, read, refused and run.
+//! fails; the fonts that they are set in, read, refused and run; and generated documents.
 //!
 //! The crate has tests alone. What they expect was worked out by hand from the formats.
 #![tactic(auto)]
 
 #[cfg(test)]
 mod code_runs;
+#[cfg(test)]
+mod documents;
 #[cfg(test)]
 mod fonts;
 #[cfg(test)]

@@ -1,0 +1,9 @@
+pub mod Draws
+pub mod Prose
+pub mod Documents
+pub mod Fonts
+pub mod Numerals
+pub mod CommandLine
+pub mod Commands
+pub mod Said
+pub mod Worked
