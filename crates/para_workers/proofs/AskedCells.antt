@@ -2,9 +2,8 @@
 --     more-asked              one line more asked for its own
 --     some-asked              a line that is refused asked for some
 --     none-asked, all-asked   none or all of them are some
-use Rattle.std.proofs.Common.{◌≡◌, refl, ap, sym, ◌∙◌, List, [], ◌∷◌, ◌++◌, append_assoc, append-nil, Result, Ok, Err}
+use Rattle.std.proofs.Common.{◌≡◌, refl, ap, sym, ◌∙◌, List, [], ◌∷◌, ◌++◌, append_assoc, append-nil}
 use Rattle.std.proofs.lemmas.Grind.{flat_map-append}
-use Rattle.hlist_build.specs.declared.fault.ParFault.{ParFault}
 use Rattle.instance_core.specs.declared.cell.Cell.{Cell}
 use Rattle.instance_core.specs.declared.font.BaseFont.{BaseFont}
 use Rattle.instance_core.specs.declared.page.Packed.{Packed}

@@ -1,7 +1,7 @@
 -- How many lines a list has, and how wide they are.
 --     few-breaks             there is at most one line more than there are items
 --     ends-low, ends-high    where a line ends is a length
-use Rattle.std.proofs.Common.{◌≡◌, ℕ, zero, suc, ◌+◌, ◌-◌, ◌<◌, ◌≤◌, add-one, arith, List, [], ◌∷◌, length}
+use Rattle.std.proofs.Common.{ℕ, zero, suc, ◌<◌, ◌≤◌, add-one, arith, List, [], ◌∷◌, length}
 use Rattle.std.specs.Prelude.{All, slice_index}
 use Rattle.break_rule.specs.Fits.{Rule}
 use Rattle.break_rule.specs.Made.{IsPlace}

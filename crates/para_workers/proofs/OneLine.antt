@@ -2,22 +2,21 @@
 --     set-as                 the line that is packed
 --     ok-line, bad-line      what its answer is
 --     ends                   where a line ends is a length
-use Rattle.std.proofs.Common.{◌≡◌, ℕ, ◌+◌, ◌-◌, ◌<◌, ◌≤◌, ◌^◌, refl, ap, sym, ◌∙◌, arith, Bool, true, false, cond, List, [], ◌∷◌, length, Option, Some, None, Result, Ok, Err, ℤ, pos, negsuc, ◌+ℤ◌, ◌-ℤ◌, ◌≤ℤ◌, ◌<ℤ◌}
+use Rattle.std.proofs.Common.{◌≡◌, ℕ, ◌-◌, ◌<◌, ◌^◌, ap, sym, ◌∙◌, arith, Bool, true, false, cond, List, [], ◌∷◌, length, Some, None, Ok, Err, ℤ, pos, negsuc, ◌+ℤ◌, ◌-ℤ◌, ◌≤ℤ◌, ◌<ℤ◌}
 use Rattle.std.proofs.lemmas.Int.{ints}
-use Rattle.std.specs.Prelude.{All, int_lt, is_some, min, slice_index_or, unsigned_abs}
+use Rattle.std.specs.Prelude.{int_lt, is_some, min, slice_index_or, unsigned_abs}
 use Rattle.std.specs.Int.{int_max}
 use Rattle.font_stock.specs.declared.font.Font.{Font}
 use Rattle.micro_num.specs.declared.params.Params.{Params}
 use Rattle.micro_num.specs.declared.shape.ShapeLine.{ShapeLine}
 use Rattle.micro_num.specs.Shape.{IsShapeLine, hangs, hung_line, line_at}
-use Rattle.hlist_build.specs.declared.fault.ParFault.{ParFault}
 use Rattle.hlist_build.specs.declared.fault.ParFault.TheVariants.{OutOfRange}
 use Rattle.break_rule.specs.Fits.{Rule}
 use Rattle.break_rule.specs.Lines.{line_pieces}
 use Rattle.break_rule.specs.declared.line.From.{From}
 use Rattle.break_rule.specs.declared.line.LineIn.{LineIn}
 use Rattle.instance_core.specs.declared.page.Packed.{Packed}
-use Rattle.hpack_two.specs.Lines.{first_out, glyphs_of, set_line, stepped}
+use Rattle.hpack_two.specs.Lines.{first_out, glyphs_of, set_line}
 use Rattle.para_workers.specs.Lengths.{HasLengths}
 use Rattle.para_workers.specs.SetPar.{is_refused, line_between, line_in_range, set_line_between}
 

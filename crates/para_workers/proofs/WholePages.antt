@@ -26,7 +26,7 @@ use Rattle.hpack_two.specs.Answers.{touched_with}
 use Rattle.hpack_two.specs.Lines.{stepped}
 use Rattle.paragraph_breaks.specs.declared.broken.Broken.{Broken}
 use Rattle.paragraph_breaks.specs.Outcome.{IsBroken, rule_of}
-use Rattle.paragraph_breaks.specs.Passes.{Paragraph, given_by, rule_over}
+use Rattle.paragraph_breaks.specs.Passes.{Paragraph, rule_over}
 use Rattle.para_workers.specs.SetPar.{first_refused, lines_in_range, lines_of, lines_of_list, lines_of_par, lines_taken, out_of_range_or, page_by, paragraph_of, set_lines, set_list, set_par, stacked_in_range}
 use Rattle.para_workers.specs.Touched.{TouchedByPage, cells_of_page, cells_on}
 use Rattle.para_workers.proofs.AskedCells.{all-asked}

@@ -1,5 +1,5 @@
 -- What setting asks of the lengths of a paragraph.
---     HasLengths params lines   its width, its hanging indentation and each line of its shape are in range
+--     HasLengths params lines   its width, its hanging indentation and its shape are in range
 use Rattle.std.specs.Prelude.{◌<◌, ◌^◌, unsigned_abs, List, All}
 use Rattle.micro_num.specs.declared.params.Params.{Params}
 use Rattle.micro_num.specs.declared.shape.ShapeLine.{ShapeLine}

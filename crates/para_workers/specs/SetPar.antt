@@ -1,7 +1,7 @@
 -- The page of a paragraph (TeX: The Program, parts 38 and 39, and sections 649 to 679).
 --     paragraph_of                     what the list of a paragraph is broken by
 --     line_between, set_line_between   the line from a break to a place, before it is set and set
---     set_lines                        the lines that end at some breaks, the first beginning behind another
+--     set_lines                        the lines that end at some breaks
 --     lines_of, lines_of_par           the lines of the pass that is taken
 --     first_refused                    the first line, from 1, with a glyph out of range
 --     lines_in_range                   the lines, or the first that is refused
@@ -101,15 +101,19 @@ stacked_in_range params lines = out_of_range_or (first_past params lines) (Ok (p
 unfoldable pub page_by : Params → List Packed → Result Page ParFault
 page_by params lines = out_of_range_or (first_refused lines) (stacked_in_range params lines)
 
-abbrev pub lines_of_list : Par → Tables → PatternTable → List Font → Result HList ParFault → List Packed
-lines_of_list par tables patterns stock (Ok list) = lines_of (paragraph_of par tables patterns stock list.items)
+abbrev pub lines_of_list : Par → Tables → PatternTable → List Font
+    → Result HList ParFault → List Packed
+lines_of_list par tables patterns stock (Ok list) =
+    lines_of (paragraph_of par tables patterns stock list.items)
 lines_of_list par tables patterns stock (Err fault) = []
 
 -- the lines of a paragraph, none where it has no list
 unfoldable pub lines_of_par : Par → Tables → PatternTable → List Font → List Packed
-lines_of_par par tables patterns stock = lines_of_list par tables patterns stock (list_of par tables stock)
+lines_of_par par tables patterns stock =
+    lines_of_list par tables patterns stock (list_of par tables stock)
 
-abbrev pub set_list : Par → Tables → PatternTable → List Font → Result HList ParFault → Result Page ParFault
+abbrev pub set_list : Par → Tables → PatternTable → List Font
+    → Result HList ParFault → Result Page ParFault
 set_list par tables patterns stock (Ok list) =
     page_by par.params (lines_of (paragraph_of par tables patterns stock list.items))
 set_list par tables patterns stock (Err fault) = Err fault

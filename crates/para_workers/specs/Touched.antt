@@ -2,7 +2,7 @@
 --     cells_on lines, cells_of_page page   the cells of all glyphs that are expanded
 --     TouchedSome                          the first so many cells of some lines were asked for
 --     TouchedByLine, TouchedByLines, TouchedByPage
---                                          the cells of just what was set, and at a fault some of them
+--                                          those of what was set, and at a fault some of them
 use Rattle.std.specs.Prelude.{◌≡◌, ℕ, List, ◌++◌, flat_map, Result, Ok, Err}
 use Rattle.hlist_build.specs.declared.fault.ParFault.{ParFault}
 use Rattle.break_rule.specs.Fits.{Rule}
@@ -23,21 +23,31 @@ unfoldable pub cells_of_page : Page → List Cell
 cells_of_page page = flat_map (λ (placed : PageLine). stepped placed.line.glyphs) page.lines
 
 -- some cells of a list, from its first on, were asked for
-pub record TouchedSome (cells : List Cell) (bases : List BaseFont) (before after : List Cell) : Type 0 where
+pub record TouchedSome (cells : List Cell) (bases : List BaseFont)
+    (before after : List Cell) : Type 0 where
   pub asked : List Cell
   pub unasked : List Cell
   pub all : asked ++ unasked ≡ cells
   pub touched : after ≡ touched_with bases asked before
 
-abbrev pub TouchedByLine : Rule → ℕ → From → ℕ → List BaseFont → List Cell → List Cell → Result Packed ParFault → Type 0
-TouchedByLine rule number from to bases before after (Ok line) = after ≡ touched_with bases (stepped line.glyphs) before
+-- one line
+abbrev pub TouchedByLine : Rule → ℕ → From → ℕ → List BaseFont → List Cell → List Cell
+    → Result Packed ParFault → Type 0
+TouchedByLine rule number from to bases before after (Ok line) =
+    after ≡ touched_with bases (stepped line.glyphs) before
 TouchedByLine rule number from to bases before after (Err fault) =
     TouchedSome (stepped (set_line_between rule number from to).glyphs) bases before after
 
-abbrev pub TouchedByLines : List Packed → List BaseFont → List Cell → List Cell → Result (List Packed) ParFault → Type 0
-TouchedByLines lines bases before after (Ok set) = after ≡ touched_with bases (cells_on set) before
-TouchedByLines lines bases before after (Err fault) = TouchedSome (cells_on lines) bases before after
+-- lines, at a fault some of all
+abbrev pub TouchedByLines : List Packed → List BaseFont → List Cell → List Cell
+    → Result (List Packed) ParFault → Type 0
+TouchedByLines all bases before after (Ok lines) =
+    after ≡ touched_with bases (cells_on lines) before
+TouchedByLines all bases before after (Err fault) = TouchedSome (cells_on all) bases before after
 
-abbrev pub TouchedByPage : List Packed → List BaseFont → List Cell → List Cell → Result Page ParFault → Type 0
-TouchedByPage lines bases before after (Ok page) = after ≡ touched_with bases (cells_of_page page) before
-TouchedByPage lines bases before after (Err fault) = TouchedSome (cells_on lines) bases before after
+-- the page of all lines
+abbrev pub TouchedByPage : List Packed → List BaseFont → List Cell → List Cell
+    → Result Page ParFault → Type 0
+TouchedByPage all bases before after (Ok page) =
+    after ≡ touched_with bases (cells_of_page page) before
+TouchedByPage all bases before after (Err fault) = TouchedSome (cells_on all) bases before after

@@ -1,16 +1,13 @@
 -- The line of its number, or that it isn't in range.
-use Rattle.std.proofs.Common.{◌≡◌, ap, sym, ◌∙◌, inl, subst, List, ◌+ℤ◌, w32, FitsSigned, to_z, of_z, rules}
+use Rattle.std.proofs.Common.{ap, sym, ◌∙◌, inl, subst, List, ◌+ℤ◌, w32, rules}
 use Rattle.std.proofs.lemmas.Int.{to_z-of_z}
 use Rattle.font_stock.specs.declared.font.Font.{Font}
 use Rattle.hpack_two.specs.Answers.{touched_with}
 use Rattle.hpack_two.specs.Over.{IsOver}
-use Rattle.hpack_two.specs.Lines.{glyphs_of, set_line, stepped}
-use Rattle.instance_core.specs.declared.cell.Cell.{Cell}
+use Rattle.hpack_two.specs.Lines.{glyphs_of, stepped}
 use Rattle.instance_core.specs.declared.page.Packed.{Packed}
 use Rattle.instance_core.specs.declared.page.Placed.{Placed}
 use Rattle.micro_num.specs.declared.shape.ShapeLine.{ShapeLine}
-use Rattle.micro_num.specs.Shape.{line_at}
-use Rattle.para_workers.specs.SetPar.{set_line_between}
 use Rattle.para_workers.proofs.OneLine.{IsEnd, at-is, bad-line, ends, glyphs-are, line-is, ok-line, set-as}
 use Rattle.para_workers.proofs.AskedCells.{all-asked}
 use Rattle.para_workers.proofs.lines.packed_line.Goals as goal

@@ -1,17 +1,16 @@
 -- One line after another, until one is refused.
-use Rattle.std.proofs.Common.{◌≡◌, ◌+◌, ◌++◌, ◌<◌, [], ◌∷◌, length, drop, arith, ap, sym, ◌∙◌, subst, inl, inr, refl, List, length-append, Err, Ok}
+use Rattle.std.proofs.Common.{◌≡◌, ◌+◌, ◌++◌, ◌<◌, [], ◌∷◌, length, drop, arith, ap, sym, ◌∙◌, subst, inl, refl, List, length-append}
 use Rattle.std.specs.Prelude.{slice_index_or}
 use Rattle.std.proofs.lemmas.List.{drop_all}
 use Rattle.std.proofs.lemmas.Result.{err_from_is_err_and}
-use Rattle.break_rule.specs.declared.line.From.TheVariants.{Start, After}
-use Rattle.instance_core.specs.declared.cell.Cell.{Cell}
+use Rattle.break_rule.specs.declared.line.From.TheVariants.{After}
 use Rattle.instance_core.specs.declared.font.BaseFont.{BaseFont}
 use Rattle.instance_core.specs.declared.page.Packed.{Packed}
 use Rattle.hpack_two.specs.Answers.{touched_with}
 use Rattle.hpack_two.specs.Lines.{stepped}
 use Rattle.para_workers.specs.SetPar.{first_refused, set_lines, set_line_between}
 use Rattle.para_workers.specs.Touched.{TouchedSome, cells_on}
-use Rattle.para_workers.proofs.AskedCells.{first-asked, more-asked, no-line-asked, none-asked, some-asked}
+use Rattle.para_workers.proofs.AskedCells.{first-asked, more-asked, no-line-asked, some-asked}
 use Rattle.para_workers.proofs.LineTurns.{answer-good, fault-of-lines, line-good, line-is, lines-good, next-break, next-line, still-good}
 use Rattle.para_workers.proofs.lines.packed_lines.Goals as goal
 

@@ -1,9 +1,5 @@
 -- The page of the lines, or the first that is past its bounds.
-use Rattle.std.proofs.Common.{◌≡◌, ap, sym, ◌∙◌, inl, Ok, Err, subst, List, Result}
-use Rattle.hlist_build.specs.declared.fault.ParFault.{ParFault}
-use Rattle.instance_core.specs.declared.page.Packed.{Packed}
-use Rattle.instance_core.specs.declared.page.Page.{Page}
-use Rattle.para_workers.specs.SetPar.{stacked_in_range}
+use Rattle.std.proofs.Common.{inl}
 use Rattle.para_workers.proofs.WholePages.{page-good, page-past}
 use Rattle.para_workers.proofs.page.page.Goals as goal
 

@@ -1,5 +1,5 @@
 -- The lines of the list as a page.
-use Rattle.std.proofs.Common.{◌≡◌, ℕ, false, ◌≤◌, arith, ap, sym, ◌∙◌, subst, length, List}
+use Rattle.std.proofs.Common.{ℕ, false, ◌≤◌, arith, ap, ◌∙◌, subst, length, List}
 use Rattle.std.proofs.lemmas.Result.{err_from_is_err_and}
 use Rattle.hlist.specs.declared.item.Item.{Item}
 use Rattle.break_rule.specs.Fits.{Rule}
@@ -7,9 +7,6 @@ use Rattle.break_rule.specs.declared.line.From.TheVariants.{Start}
 use Rattle.instance_core.specs.declared.page.Packed.{Packed}
 use Rattle.list_fonts.proofs.OverLaws.{list_over}
 use Rattle.paragraph_breaks.specs.Passes.{rule_over}
-use Rattle.para_workers.specs.SetPar.{lines_of, page_by, paragraph_of, set_lines}
-use Rattle.para_workers.specs.Touched.{TouchedSome, cells_on}
-use Rattle.para_workers.proofs.AskedCells.{none-asked}
 use Rattle.para_workers.proofs.LineCounts.{few-breaks}
 use Rattle.para_workers.proofs.LineTurns.{count-lines}
 use Rattle.para_workers.proofs.WholePages.{all-lines, only-bad, only-good, page-answer, page-touched}

@@ -1,9 +1,9 @@
 -- The list of the paragraph as a page.
-use Rattle.std.proofs.Common.{◌≡◌, ap, sym, ◌∙◌, subst, List, Err, Ok}
+use Rattle.std.proofs.Common.{subst, List}
 use Rattle.std.proofs.lemmas.Result.{err_from_is_err_and}
 use Rattle.instance_core.specs.declared.page.Packed.{Packed}
 use Rattle.list_fonts.proofs.PartFonts.{paragraph_shares}
-use Rattle.para_workers.specs.Touched.{TouchedByPage, cells_on}
+use Rattle.para_workers.specs.Touched.{TouchedByPage}
 use Rattle.para_workers.proofs.AskedCells.{none-asked}
 use Rattle.para_workers.proofs.WholePages.{fault-of-list, lines-of-list, list-is, page-of-list}
 use Rattle.para_workers.proofs.paragraph.set_par.Goals as goal
