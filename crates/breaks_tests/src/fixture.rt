@@ -1,4 +1,4 @@
-//! Jobs in a font whose characters are all half a size wide, and how their first paragraphs are
+//! Jobs in a font whose characters are all half a size wide, and how their last paragraphs are
 //! broken.
 ghost use Rattle.std.specs.Prelude.{◌<◌, ◌^◌, All, IsTrue, length, unsigned_abs};
 ghost use Rattle.font_stock.specs.Sizes.{IsSize};
@@ -73,7 +73,7 @@ fn names_font(stock: &Stock, part: &Part) -> bool
 }
 
 /// Whether each part names a font of the stock, if it names one.
-fn name_fonts(stock: &Stock, parts: &[PartAt]) -> bool
+pub(crate) fn name_fonts(stock: &Stock, parts: &[PartAt]) -> bool
     ensures { IsTrue result → All (λ one. NamesFont (length stock.now) one.part) parts.now }
 {
     for one in parts {
@@ -85,7 +85,7 @@ fn name_fonts(stock: &Stock, parts: &[PartAt]) -> bool
 }
 
 /// Whether lines and what they hang by are shorter than 2^30 sp, and a shape than 2^32 lines.
-fn are_within(params: &Params, shape: &[ShapeLine]) -> bool
+pub(crate) fn are_within(params: &Params, shape: &[ShapeLine]) -> bool
     ensures hsize { IsTrue result → unsigned_abs params.now.hsize < 2 ^ 30 }
     ensures hangindent { IsTrue result → unsigned_abs params.now.hangindent < 2 ^ 30 }
     ensures shape { IsTrue result → length shape.now < 2 ^ 32 }
@@ -143,8 +143,17 @@ fn job(alloc: Global, settings: &[u8], text: &[u8]) -> Result<Vec<u8>, AllocErro
     Ok(bytes)
 }
 
-/// How the paragraph of such a job is broken.
-pub(crate) fn broken(alloc: Global, settings: &[u8], text: &[u8]) -> Result<Broken, Fail> {
+/// A paragraph with what it is broken and set by.
+#[derive(Drop)]
+pub(crate) struct Sample {
+    pub(crate) par: Par,
+    pub(crate) tables: Tables,
+    pub(crate) patterns: Patterns,
+    pub(crate) stock: Stock,
+}
+
+/// The paragraph of such a job.
+pub(crate) fn read_sample(alloc: Global, settings: &[u8], text: &[u8]) -> Result<Sample, Fail> {
     let bytes = job(alloc, settings, text)?;
     if bytes.len() >= 1 << 32 {
         return Err(Fail::new(format_args!("a long job")));
@@ -158,10 +167,27 @@ pub(crate) fn broken(alloc: Global, settings: &[u8], text: &[u8]) -> Result<Brok
     } = read_job(alloc, &bytes)?;
     let stock = stock_of(alloc, fonts.into_vec())?;
     let patterns = Patterns::make(alloc, patterns.as_slice(), exceptions.as_slice())?;
-    match pars.as_slice().first() {
-        Some(par) => broken_par(alloc, par, &tables, &patterns, &stock),
+    let mut pars = pars.into_vec();
+    match pars.pop() {
+        Some(par) => Ok(Sample {
+            par,
+            tables,
+            patterns,
+            stock,
+        }),
         None => Err(Fail::new(format_args!("no paragraph"))),
     }
+}
+
+/// How the paragraph of such a job is broken.
+pub(crate) fn broken(alloc: Global, settings: &[u8], text: &[u8]) -> Result<Broken, Fail> {
+    let Sample {
+        par,
+        tables,
+        patterns,
+        stock,
+    } = read_sample(alloc, settings, text)?;
+    broken_par(alloc, &par, &tables, &patterns, &stock)
 }
 
 /// Whether a paragraph was broken in this pass, with this total and these breaks.

@@ -1,5 +1,5 @@
-//! Whole paragraphs of jobs, broken by all their passes, with the breaks and totals that were
-//! worked out by hand from TeX: The Program.
+//! Whole paragraphs of jobs, broken by all their passes and set as pages, with the breaks, totals
+//! and places that were worked out by hand from TeX: The Program and the pdfTeX manual.
 //!
 //! The crate has tests alone.
 #![tactic(auto)]
@@ -8,5 +8,7 @@
 mod fixture;
 #[cfg(test)]
 mod looseness;
+#[cfg(test)]
+mod pages;
 #[cfg(test)]
 mod passes;
