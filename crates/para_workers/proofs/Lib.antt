@@ -3,3 +3,7 @@ pub mod AskedCells
 pub mod LineCounts
 pub mod WholePages
 pub mod OneLine
+pub mod ChosenCells
+pub mod FittingPages
+pub mod PageTurns
+pub mod JobLaws

@@ -4,7 +4,7 @@
 --     page-is                lines of which none is refused give the page of all
 use Rattle.std.proofs.Common.{◌≡◌, ℕ, inl, inr, refl, ap, sym, ◌∙◌, false, flat_map, List, [], ◌∷◌, ◌++◌, Option, Some, None, Result, Ok, Err}
 use Rattle.font_stock.specs.declared.font.Font.{Font}
-use Rattle.liang_hyph.specs.Table.{PatternTable}
+use Rattle.hlist_hyph.specs.Hyphenated.{Places}
 use Rattle.micro_num.specs.declared.paragraph.Par.{Par}
 use Rattle.micro_num.specs.declared.params.Params.{Params}
 use Rattle.micro_num.specs.declared.shape.ShapeLine.{ShapeLine}
@@ -100,14 +100,14 @@ unfolding stacked_in_range
 page-past params lines line past = sym (ap (λ o. out_of_range_or o (Ok (page_of params lines))) past)
 
 -- the lines of the list that was broken are those of the paragraph
-pub all-lines : (par : Par) (tables : Tables) (patterns : PatternTable) (stock : List Font) (items : List Item) (shape : List ShapeLine) (b : Broken)
+pub all-lines : (par : Par) (tables : Tables) (places : Places) (stock : List Font) (items : List Item) (shape : List ShapeLine) (b : Broken)
     (rule : Rule) (breaks : List ℕ) → shape ≡ par.shape
-    → IsBroken (record { items = items; params = par.params; shape = shape; tables = tables; patterns = patterns; stock = stock }) b
+    → IsBroken (record { items = items; params = par.params; shape = shape; tables = tables; places = places; stock = stock }) b
     → rule ≡ rule_over b.list.items par.params shape stock false → breaks ≡ b.breaks
-    → set_lines rule 1 Start breaks ≡ lines_of (paragraph_of par tables patterns stock items)
-all-lines par tables patterns stock items shape b rule breaks own is rule_is breaks_are =
+    → set_lines rule 1 Start breaks ≡ lines_of (paragraph_of par tables places stock items)
+all-lines par tables places stock items shape b rule breaks own is rule_is breaks_are =
     let with_shape : List ShapeLine → Paragraph
-    = λ s. record { items = items; params = par.params; shape = s; tables = tables; patterns = patterns; stock = stock } in
+    = λ s. record { items = items; params = par.params; shape = s; tables = tables; places = places; stock = stock } in
     ap (λ (r : Rule). set_lines r 1 Start breaks) rule_is
     ∙ ap (λ (bs : List ℕ). set_lines (rule_over b.list.items par.params shape stock false) 1 Start bs) breaks_are
     ∙ lines-are (with_shape shape) b is
@@ -134,20 +134,20 @@ pub list-is : (list : HList) (wanted : Result HList ParFault) → Gives HList (O
 list-is list wanted (inl is) = sym is
 list-is list wanted (inr none) = absurd (cc)
 
-pub page-of-list : (par : Par) (tables : Tables) (patterns : PatternTable) (stock : List Font) (list : HList) (result : Result Page ParFault)
-    → list_of par tables stock ≡ Ok list → Gives Page result (page_by par.params (lines_of (paragraph_of par tables patterns stock list.items)))
-    → Gives Page result (set_par par tables patterns stock)
+pub page-of-list : (par : Par) (tables : Tables) (places : Places) (stock : List Font) (list : HList) (result : Result Page ParFault)
+    → list_of par tables stock ≡ Ok list → Gives Page result (page_by par.params (lines_of (paragraph_of par tables places stock list.items)))
+    → Gives Page result (set_par par tables places stock)
 unfolding set_par
-page-of-list par tables patterns stock list result known (inl is) = inl (is ∙ sym (ap (set_list par tables patterns stock) known))
-page-of-list par tables patterns stock list result known (inr none) = inr none
+page-of-list par tables places stock list result known (inl is) = inl (is ∙ sym (ap (set_list par tables places stock) known))
+page-of-list par tables places stock list result known (inr none) = inr none
 
-pub lines-of-list : (par : Par) (tables : Tables) (patterns : PatternTable) (stock : List Font) (list : HList)
-    → list_of par tables stock ≡ Ok list → lines_of (paragraph_of par tables patterns stock list.items) ≡ lines_of_par par tables patterns stock
+pub lines-of-list : (par : Par) (tables : Tables) (places : Places) (stock : List Font) (list : HList)
+    → list_of par tables stock ≡ Ok list → lines_of (paragraph_of par tables places stock list.items) ≡ lines_of_par par tables places stock
 unfolding lines_of_par
-lines-of-list par tables patterns stock list known = sym (ap (lines_of_list par tables patterns stock) known)
+lines-of-list par tables places stock list known = sym (ap (lines_of_list par tables places stock) known)
 
-pub fault-of-list : (par : Par) (tables : Tables) (patterns : PatternTable) (stock : List Font) (fault : ParFault)
-    → Gives HList (Err fault) (list_of par tables stock) → Gives Page (Err fault) (set_par par tables patterns stock)
+pub fault-of-list : (par : Par) (tables : Tables) (places : Places) (stock : List Font) (fault : ParFault)
+    → Gives HList (Err fault) (list_of par tables stock) → Gives Page (Err fault) (set_par par tables places stock)
 unfolding set_par
-fault-of-list par tables patterns stock fault (inl is) = inl (ap (set_list par tables patterns stock) is)
-fault-of-list par tables patterns stock fault (inr none) = inr (let same : fault ≡ NoMemory = cc in ap (λ e. Err e) same)
+fault-of-list par tables places stock fault (inl is) = inl (ap (set_list par tables places stock) is)
+fault-of-list par tables places stock fault (inr none) = inr (let same : fault ≡ NoMemory = cc in ap (λ e. Err e) same)

@@ -11,7 +11,7 @@
 use Rattle.std.specs.Prelude.{ℕ, ◌+◌, pos, int_lt, Bool, false, List, [], ◌∷◌, Option, Some, None, is_some, Result, Ok, Err, if◌then◌else◌}
 use Rattle.std.specs.List.{position_from}
 use Rattle.font_stock.specs.declared.font.Font.{Font}
-use Rattle.liang_hyph.specs.Table.{PatternTable}
+use Rattle.hlist_hyph.specs.Hyphenated.{Places}
 use Rattle.micro_num.specs.declared.paragraph.Par.{Par}
 use Rattle.micro_num.specs.declared.params.Params.{Params}
 use Rattle.micro_num.specs.declared.tables.Tables.{Tables}
@@ -33,13 +33,13 @@ use Rattle.instance_core.specs.declared.page.Page.{Page}
 use Rattle.hpack_two.specs.Lines.{first_out, set_line}
 use Rattle.dvi_write.specs.Stacking.{first_past, page_of}
 
-abbrev pub paragraph_of : Par → Tables → PatternTable → List Font → List Item → Paragraph
-paragraph_of par tables patterns stock items = record {
+abbrev pub paragraph_of : Par → Tables → Places → List Font → List Item → Paragraph
+paragraph_of par tables places stock items = record {
   items = items;
   params = par.params;
   shape = par.shape;
   tables = tables;
-  patterns = patterns;
+  places = places;
   stock = stock;
 }
 
@@ -101,23 +101,23 @@ stacked_in_range params lines = out_of_range_or (first_past params lines) (Ok (p
 unfoldable pub page_by : Params → List Packed → Result Page ParFault
 page_by params lines = out_of_range_or (first_refused lines) (stacked_in_range params lines)
 
-abbrev pub lines_of_list : Par → Tables → PatternTable → List Font
+abbrev pub lines_of_list : Par → Tables → Places → List Font
     → Result HList ParFault → List Packed
-lines_of_list par tables patterns stock (Ok list) =
-    lines_of (paragraph_of par tables patterns stock list.items)
-lines_of_list par tables patterns stock (Err fault) = []
+lines_of_list par tables places stock (Ok list) =
+    lines_of (paragraph_of par tables places stock list.items)
+lines_of_list par tables places stock (Err fault) = []
 
 -- the lines of a paragraph, none where it has no list
-unfoldable pub lines_of_par : Par → Tables → PatternTable → List Font → List Packed
-lines_of_par par tables patterns stock =
-    lines_of_list par tables patterns stock (list_of par tables stock)
+unfoldable pub lines_of_par : Par → Tables → Places → List Font → List Packed
+lines_of_par par tables places stock =
+    lines_of_list par tables places stock (list_of par tables stock)
 
-abbrev pub set_list : Par → Tables → PatternTable → List Font
+abbrev pub set_list : Par → Tables → Places → List Font
     → Result HList ParFault → Result Page ParFault
-set_list par tables patterns stock (Ok list) =
-    page_by par.params (lines_of (paragraph_of par tables patterns stock list.items))
-set_list par tables patterns stock (Err fault) = Err fault
+set_list par tables places stock (Ok list) =
+    page_by par.params (lines_of (paragraph_of par tables places stock list.items))
+set_list par tables places stock (Err fault) = Err fault
 
 -- the page of a paragraph, or its first fault, where memory suffices
-unfoldable pub set_par : Par → Tables → PatternTable → List Font → Result Page ParFault
-set_par par tables patterns stock = set_list par tables patterns stock (list_of par tables stock)
+unfoldable pub set_par : Par → Tables → Places → List Font → Result Page ParFault
+set_par par tables places stock = set_list par tables places stock (list_of par tables stock)

@@ -1,5 +1,6 @@
 -- Which cells the setting of lines asks for.
---     cells_on lines, cells_of_page page   the cells of all glyphs that are expanded
+--     cells_on lines, cells_of_page page, cells_of_all pages
+--                                          the cells of all glyphs that are expanded
 --     TouchedSome                          the first so many cells of some lines were asked for
 --     TouchedByLine, TouchedByLines, TouchedByPage
 --                                          those of what was set, and at a fault some of them
@@ -51,3 +52,7 @@ abbrev pub TouchedByPage : List Packed → List BaseFont → List Cell → List 
 TouchedByPage all bases before after (Ok page) =
     after ≡ touched_with bases (cells_of_page page) before
 TouchedByPage all bases before after (Err fault) = TouchedSome (cells_on all) bases before after
+
+-- of all pages
+unfoldable pub cells_of_all : List Page → List Cell
+cells_of_all pages = flat_map cells_of_page pages

@@ -1,9 +1,10 @@
 //! The lines of a broken list, set one by one.
-ghost use Rattle.std.specs.Prelude.{◌≡◌, ◌⊎◌, ◌<◌, ◌≤◌, ◌^◌, All, Err, length, map};
+ghost use Rattle.std.specs.Prelude.{◌≡◌, ◌⊎◌, ◌<◌, ◌≤◌, ◌^◌, All, Err, IfOk, length, map};
 ghost use Rattle.hlist_build.specs.declared.fault.ParFault.TheVariants.{NoMemory};
 ghost use Rattle.break_rule.specs.Made.{IsFrom, IsPlace};
 ghost use Rattle.break_rule.specs.declared.line.From.TheVariants.{Start};
 ghost use Rattle.hpack_two.specs.Over.{base_of};
+ghost use Rattle.para_workers.specs.Fitting.{IsSetOver};
 ghost use Rattle.para_workers.specs.Lengths.{HasLengths};
 ghost use Rattle.para_workers.specs.SetPar.{line_in_range, lines_in_range, set_lines};
 ghost use Rattle.para_workers.specs.Touched.{TouchedByLine, TouchedByLines};
@@ -36,6 +37,7 @@ fn packed_line<W: WidthSource>(
     ensures line { (result ≡ line_in_range rule.now number from to) ⊎ (result ≡ Err NoMemory) }
     ensures touched { TouchedByLine rule.now number from to (W.bases source.old)
         (W.touched source.old) (W.touched source.new) result }
+    ensures over { IfOk result (IsSetOver stock.now) }
     ensures bases { W.bases source.new ≡ W.bases source.old }
     ensures fixed { W.fixed source.new ≡ W.fixed source.old }
 {
@@ -68,6 +70,7 @@ pub(crate) fn packed_lines<W: WidthSource>(
         ⊎ (result ≡ Err NoMemory) }
     ensures touched { TouchedByLines (set_lines rule.now 1 Start breaks.now)
         (W.bases source.old) (W.touched source.old) (W.touched source.new) result }
+    ensures over { IfOk result (All (IsSetOver stock.now)) }
     ensures bases { W.bases source.new ≡ W.bases source.old }
     ensures fixed { W.fixed source.new ≡ W.fixed source.old }
 {

@@ -1,10 +1,12 @@
 //! A paragraph as a page.
-ghost use Rattle.std.specs.Prelude.{◌≡◌, ◌⊎◌, ◌<◌, ◌^◌, All, Err, length, map};
+ghost use Rattle.std.specs.Prelude.{◌≡◌, ◌⊎◌, ◌<◌, ◌^◌, All, Err, IfOk, length, map};
 ghost use Rattle.hlist.specs.Bounds.{IsListOf, IsSmall};
 ghost use Rattle.hlist_build.specs.Parts.{NamesFont};
+ghost use Rattle.hlist_hyph.specs.Hyphenated.{places_in};
 ghost use Rattle.hlist_build.specs.declared.fault.ParFault.TheVariants.{NoMemory};
 ghost use Rattle.break_rule.specs.Over.{Share};
 ghost use Rattle.hpack_two.specs.Over.{base_of};
+ghost use Rattle.para_workers.specs.Fitting.{IsPageOver};
 ghost use Rattle.para_workers.specs.Lengths.{HasLengths};
 ghost use Rattle.para_workers.specs.SetPar.{lines_of_par, lines_of, page_by, paragraph_of};
 ghost use Rattle.para_workers.specs.SetPar.{set_par as page_of_par};
@@ -38,12 +40,14 @@ fn set_list<W: WidthSource>(
     requires lengths { HasLengths par.now.params par.now.shape }
     requires shape { length par.now.shape < 2 ^ 32 }
     requires source { W.bases source.old ≡ map base_of stock.now }
-    ensures page { let p = paragraph_of par.now tables.now patterns.now stock.now list.now.items in
+    ensures page { let places = places_in patterns.now par.now.params in
+        let p = paragraph_of par.now tables.now places stock.now list.now.items in
         (result ≡ page_by par.now.params (lines_of p)) ⊎ (result ≡ Err NoMemory) }
-    ensures touched { let items = list.now.items in
-        let p = paragraph_of par.now tables.now patterns.now stock.now items in
+    ensures touched { let places = places_in patterns.now par.now.params in
+        let p = paragraph_of par.now tables.now places stock.now list.now.items in
         TouchedByPage (lines_of p) (W.bases source.old)
         (W.touched source.old) (W.touched source.new) result }
+    ensures over { IfOk result (IsPageOver stock.now) }
     ensures bases { W.bases source.new ≡ W.bases source.old }
     ensures fixed { W.fixed source.new ≡ W.fixed source.old }
 {
@@ -69,7 +73,9 @@ fn set_list<W: WidthSource>(
 /// out of range; where there is none, with that of the first line that is past the bounds of the
 /// page. Besides, there is [`ParFault::NoMemory`].
 ///
-/// The source is asked for each glyph that is expanded, and for no other.
+/// The source is asked for each glyph that is expanded, and for no other. A page that is given fits
+/// the stock: its baselines and the edges of its glyphs are places, and each glyph's font is one
+/// of the stock, as it is or as an instance.
 pub fn set_par<W: WidthSource>(
     alloc: Global,
     par: &Par,
@@ -82,10 +88,12 @@ pub fn set_par<W: WidthSource>(
     requires lengths { HasLengths par.now.params par.now.shape }
     requires shape { length par.now.shape < 2 ^ 32 }
     requires source { W.bases source.old ≡ map base_of stock.now }
-    ensures page { (result ≡ page_of_par par.now tables.now patterns.now stock.now)
-        ⊎ (result ≡ Err NoMemory) }
-    ensures touched { TouchedByPage (lines_of_par par.now tables.now patterns.now stock.now)
+    ensures page { let places = places_in patterns.now par.now.params in
+        (result ≡ page_of_par par.now tables.now places stock.now) ⊎ (result ≡ Err NoMemory) }
+    ensures touched { let places = places_in patterns.now par.now.params in
+        TouchedByPage (lines_of_par par.now tables.now places stock.now)
         (W.bases source.old) (W.touched source.old) (W.touched source.new) result }
+    ensures over { IfOk result (IsPageOver stock.now) }
     ensures bases { W.bases source.new ≡ W.bases source.old }
     ensures fixed { W.fixed source.new ≡ W.fixed source.old }
 {

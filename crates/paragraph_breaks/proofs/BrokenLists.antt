@@ -3,7 +3,7 @@
 use Rattle.std.proofs.Common.{◌≡◌, ℕ, ap, sym, ◌∙◌, cond, Bool, true, false, List, [], ◌∷◌, ◌==◌, Some, None, pos, int_le, int_lt, inl, inr}
 use Rattle.hlist.specs.declared.item.HList.{HList}
 use Rattle.hlist.specs.declared.item.Item.{Item}
-use Rattle.hlist_hyph.specs.Hyphenated.{hyphenated_items, places_in}
+use Rattle.hlist_hyph.specs.Hyphenated.{hyphenated_items}
 use Rattle.line_break.specs.Members.{Among}
 use Rattle.line_break.specs.Pass.{Pass}
 use Rattle.line_break.specs.Taken.{Taken, first_taken}
@@ -61,12 +61,12 @@ module _ (p : Paragraph) where
         taken = sym (first_among p.params.looseness early late (taken_by b) some);
       })
 
-  hyphenated_is : (items : List Item) → items ≡ hyphenated_items p.tables p.stock (places_in p.patterns p.params) p.items → items ≡ hyphenated_of p
+  hyphenated_is : (items : List Item) → items ≡ hyphenated_items p.tables p.stock p.places p.items → items ≡ hyphenated_of p
   unfolding hyphenated_of
   hyphenated_is items is = is
 
   pub late_broken : (list : HList) (b : Breaks)
-      → list.items ≡ hyphenated_items p.tables p.stock (places_in p.patterns p.params) p.items → None ≡ early_taken p.items p.params p.shape p.stock
+      → list.items ≡ hyphenated_items p.tables p.stock p.places p.items → None ≡ early_taken p.items p.params p.shape p.stock
       → Some (taken_by b) ≡ late_taken list.items p.params p.shape p.stock → IsBroken p (broken_as list b)
   unfolding passes_of
   late_broken list b made none some =

@@ -1,21 +1,20 @@
 -- The passes by which a paragraph is broken, and what they give (TeX: The Program, sections 863 and
 -- 873 to 875).
---     Paragraph              what a paragraph is broken by
+--     Paragraph              what a paragraph is broken by, the hyphen places of words among it
 --     hyphenated_of          its list with its words hyphenated
 --     early_passes, late_passes    the passes over a list as it stands, and over a hyphenated one
 --     passes_of              the passes that are tried, with their numbers
 --     items_of               the list that a pass breaks
 --     taken_way, taken_by    the way of a pass that is taken, and what it gives
 --     IsFirstTaken           what the first of them gives that is taken
-use Rattle.std.specs.Prelude.{◌≡◌, ℕ, ◌+◌, ◌-◌, ◌==◌, ℤ, pos, int_le, int_lt, Bool, true, false, List, [], ◌∷◌, ◌++◌, length, slice_index_or, Option, Some, None, if◌then◌else◌}
+use Rattle.std.specs.Prelude.{◌≡◌, ℕ, ◌==◌, ℤ, pos, int_le, int_lt, Bool, true, false, List, [], ◌∷◌, ◌++◌, Option, Some, None, if◌then◌else◌}
 use Rattle.std.specs.Int.{int_min}
 use Rattle.font_stock.specs.declared.font.Font.{Font}
-use Rattle.liang_hyph.specs.Table.{PatternTable}
 use Rattle.micro_num.specs.declared.params.Params.{Params}
 use Rattle.micro_num.specs.declared.shape.ShapeLine.{ShapeLine}
 use Rattle.micro_num.specs.declared.tables.Tables.{Tables}
 use Rattle.hlist.specs.declared.item.Item.{Item}
-use Rattle.hlist_hyph.specs.Hyphenated.{hyphenated_items, places_in}
+use Rattle.hlist_hyph.specs.Hyphenated.{Places, hyphenated_items}
 use Rattle.line_break.specs.Pass.{Pass}
 use Rattle.break_rule.specs.Fits.{Rule}
 use Rattle.break_pass.specs.Passes.{pass_of}
@@ -29,11 +28,11 @@ pub record Paragraph : Type 0 where
   pub params : Params
   pub shape : List ShapeLine
   pub tables : Tables
-  pub patterns : PatternTable
+  pub places : Places
   pub stock : List Font
 
 unfoldable pub hyphenated_of : Paragraph → List Item
-hyphenated_of p = hyphenated_items p.tables p.stock (places_in p.patterns p.params) p.items
+hyphenated_of p = hyphenated_items p.tables p.stock p.places p.items
 
 -- what a pass over a list asks for
 abbrev pub rule_over : List Item → Params → List ShapeLine → List Font → Bool → Rule

@@ -3,6 +3,7 @@
 ghost use Rattle.std.specs.Prelude.{◌≡◌, ◌<◌, ◌≤◌, ◌^◌, ◌∷◌, [], IfOk, Some, length, option_map};
 ghost use Rattle.std.specs.Prelude.{true, unsigned_abs};
 ghost use Rattle.hlist.specs.Bounds.{IsInBounds, IsListOf, IsSmall};
+ghost use Rattle.hlist_hyph.specs.Hyphenated.{places_in};
 ghost use Rattle.line_break.specs.Taken.{first_taken};
 ghost use Rattle.break_pass.specs.Passes.{pass_of};
 ghost use Rattle.break_rule.specs.Over.{Share};
@@ -129,7 +130,7 @@ pub fn breaks(
       params = params.now;
       shape = shape.now;
       tables = tables.now;
-      patterns = patterns.now;
+      places = places_in patterns.now params.now;
       stock = stock.now;
     })) }
     ensures bounds { IfOk result (λ broken. IsInBounds broken.list) }

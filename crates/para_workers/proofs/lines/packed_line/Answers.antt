@@ -10,6 +10,7 @@ use Rattle.instance_core.specs.declared.page.Placed.{Placed}
 use Rattle.micro_num.specs.declared.shape.ShapeLine.{ShapeLine}
 use Rattle.para_workers.proofs.OneLine.{IsEnd, at-is, bad-line, ends, glyphs-are, line-is, ok-line, set-as}
 use Rattle.para_workers.proofs.AskedCells.{all-asked}
+use Rattle.para_workers.proofs.FittingPages.{line-over}
 use Rattle.para_workers.proofs.lines.packed_line.Goals as goal
 
 pub pack-requires-clause-line : goal.pack-requires-clause-line
@@ -64,3 +65,8 @@ returns-in-Err-OutOfRange-clause-touched g c =
     let asked = rw c.in-Err-OutOfRange.field-0-is at c.in-Err-OutOfRange.ensures.touched in
     all-asked _ _ _ _
     (asked ∙ ap (λ (own : List Placed). touched_with (g.W.WidthSource.bases c.args.source.now) (stepped own) (g.W.WidthSource.touched c.args.source.now)) glyphs)
+
+pub returns-in-Ok-pack-clause-over : goal.returns-in-Ok-pack-clause-over
+returns-in-Ok-pack-clause-over g c =
+    let over = subst (λ (stock : List Font). IsOver stock c.in-Ok.line.pieces) c.requires.stock c.in-Ok.ensures.packable in
+    line-over c.args.stock.now c.in-Ok.line _ _ c.in-Ok-pack.packed over c.in-Ok-pack.ensures.line.0 c.in-Ok-pack.ensures.line.1

@@ -2,12 +2,14 @@
 use Rattle.std.proofs.Common.{◌≡◌, ◌+◌, ◌++◌, ◌<◌, [], ◌∷◌, length, drop, arith, ap, sym, ◌∙◌, subst, inl, refl, List, length-append}
 use Rattle.std.specs.Prelude.{slice_index_or}
 use Rattle.std.proofs.lemmas.List.{drop_all}
+use Rattle.std.proofs.lemmas.List.Elements.{All-nil, All-push}
 use Rattle.std.proofs.lemmas.Result.{err_from_is_err_and}
 use Rattle.break_rule.specs.declared.line.From.TheVariants.{After}
 use Rattle.instance_core.specs.declared.font.BaseFont.{BaseFont}
 use Rattle.instance_core.specs.declared.page.Packed.{Packed}
 use Rattle.hpack_two.specs.Answers.{touched_with}
 use Rattle.hpack_two.specs.Lines.{stepped}
+use Rattle.para_workers.specs.Fitting.{IsSetOver}
 use Rattle.para_workers.specs.SetPar.{first_refused, set_lines, set_line_between}
 use Rattle.para_workers.specs.Touched.{TouchedSome, cells_on}
 use Rattle.para_workers.proofs.AskedCells.{first-asked, more-asked, no-line-asked, some-asked}
@@ -18,7 +20,7 @@ pub loop-index-init : goal.loop-index-init
 loop-index-init g c =
     let empty : c.from_vec-lines.result ≡ [] = c.from_vec-lines.ensures ∙ c.in_ok-with_capacity.ensures.items in
     let asked = no-line-asked (g.W.WidthSource.bases c.args.source.now) (g.W.WidthSource.touched c.args.source.now) (g.met.W.WidthSource.in_order c.args.source.now) in
-    rw empty (record { all = refl; count = refl; good = refl; from = tt; touched = asked; bases = refl; fixed = refl })
+    rw empty (record { all = refl; count = refl; good = refl; over = All-nil (IsSetOver c.args.stock.now); from = tt; touched = asked; bases = refl; fixed = refl })
 
 pub loop-index-preserved : goal.loop-index-preserved
 loop-index-preserved g c =
@@ -42,6 +44,7 @@ loop-index-preserved g c =
           ∙ next-line rule index c.loop-index.from (slice_index_or breaks index 0) lines _ line breaks front inv.all good.0;
       count = ap (λ (ls : List Packed). length ls) put ∙ length-append lines (line ∷ []) ∙ ap (λ n. n + 1) inv.count;
       good = ap (λ (ls : List Packed). first_refused ls) put ∙ still-good lines line inv.good good.1;
+      over = rw put (All-push (IsSetOver c.args.stock.now) lines line inv.over c.in_ok-packed_line.ensures.over);
       from = c.requires.places index 0 inside;
       touched = more-asked bases lines line before old _ inv.touched asked ∙ ap (λ (ls : List Packed). touched_with bases (cells_on ls) before) (sym put);
       bases = c.in_ok-packed_line.ensures.bases ∙ inv.bases;

@@ -2,6 +2,7 @@ use Rattle.std.proofs.Common.{◌≡◌, ◌∙◌, ap, sym, subst, option_map}
 use Rattle.hlist.specs.Bounds.{IsInBounds}
 use Rattle.hlist.specs.declared.item.HList.{HList}
 use Rattle.hlist.proofs.CountLemmas.{small-in_bounds}
+use Rattle.hlist_hyph.specs.Hyphenated.{places_in}
 use Rattle.hlist_hyph.proofs.OwnLemmas.{items-below}
 use Rattle.list_fonts.proofs.AlikeLaws.{same_fonts_share}
 use Rattle.break_rule.specs.Over.{Share}
@@ -23,7 +24,7 @@ returns-in-Some-clause-broken c =
       params = c.args.params.now;
       shape = c.args.shape.now;
       tables = c.args.tables.now;
-      patterns = c.args.patterns.now;
+      places = places_in c.args.patterns.now c.args.params.now;
       stock = c.args.stock.now;
     } in
     let copied : c.in_ok-copied.field-0 ≡ c.args.list.now = c.in_ok-copied.ensures in
@@ -58,7 +59,7 @@ returns-clause-broken c =
       params = c.args.params.now;
       shape = c.args.shape.now;
       tables = c.args.tables.now;
-      patterns = c.args.patterns.now;
+      places = places_in c.args.patterns.now c.args.params.now;
       stock = c.args.stock.now;
     } in
     subst (IsBroken p) (sym c.broken-2.ensures)

@@ -1,0 +1,3 @@
+pub mod StockCells
+pub mod WritableOver
+pub mod TouchedUses
