@@ -1,8 +1,9 @@
 //! Jobs in a font whose characters are all half a size wide, and how their last paragraphs are
 //! broken.
-ghost use Rattle.std.specs.Prelude.{◌<◌, ◌^◌, All, IsTrue, length, unsigned_abs};
+ghost use Rattle.std.specs.Prelude.{◌<◌, ◌^◌, All, IfOk, IsTrue, false, length, unsigned_abs};
 ghost use Rattle.font_stock.specs.Sizes.{IsSize};
-ghost use Rattle.hlist.specs.Bounds.{IsSmall, IsListOf};
+ghost use Rattle.hlist.specs.Bounds.{IsInBounds, IsListOf, IsSmall};
+ghost use Rattle.break_rule.specs.Made.{IsPlace};
 ghost use Rattle.hlist_build.specs.Parts.{NamesFont};
 ghost use Rattle.break_rule.specs.Over.{Share};
 
@@ -97,7 +98,7 @@ pub(crate) fn are_within(params: &Params, shape: &[ShapeLine]) -> bool
 }
 
 /// How the list of a paragraph is broken.
-fn broken_list(
+pub(crate) fn broken_list(
     alloc: Global,
     par: &Par,
     list: &HList,
@@ -108,6 +109,16 @@ fn broken_list(
     requires small { IsSmall list.now }
     requires own { IsListOf stock.now list.now }
     requires share { Share par.now.params stock.now list.now.items }
+    ensures bounds { IfOk result (λ broken. IsInBounds broken.list) }
+    ensures own { IfOk result (λ broken. IsListOf stock.now broken.list) }
+    ensures share { IfOk result (λ broken. Share par.now.params stock.now broken.list.items) }
+    ensures legal { IfOk result (λ broken. All (IsPlace (record {
+      items = broken.list.items;
+      params = par.now.params;
+      shape = par.now.shape;
+      stock = stock.now;
+      emergency = false;
+    })) broken.breaks) }
 {
     let shape = par.shape.as_slice();
     if !are_within(&par.params, shape) {

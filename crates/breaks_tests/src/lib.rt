@@ -12,3 +12,5 @@ mod looseness;
 mod pages;
 #[cfg(test)]
 mod passes;
+#[cfg(test)]
+mod random;
