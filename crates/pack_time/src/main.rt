@@ -2,8 +2,9 @@
 //!
 //! `pack_time LINES` says how many glyphs so many lines have and how many cells are asked for them,
 //! and `pack_time LINES ROUNDS` besides, for each round, how many microseconds packing the lines
-//! took where their fonts are expanded, where they are not, and copying their pieces. The lines are
-//! of seven words, each a little longer or shorter than its width.
+//! took where their fonts are expanded, the same over a table whose cells are built, where they are
+//! not expanded, and copying their pieces. The lines are of sixteen words, each a little longer or
+//! shorter than its width.
 #![tactic(auto)]
 
 mod draws;

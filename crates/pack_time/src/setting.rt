@@ -1,4 +1,4 @@
-//! Lines of seven words, each with the width that it is set to.
+//! Lines of about eighty letters, each with the width that it is set to.
 ghost use Rattle.std.specs.Prelude.{◌≡◌, ◌≤◌, IfOk, IfSome, OnOk, All, length};
 ghost use Rattle.pack_time.specs.Timed.{IsTimed, IsTimedPiece};
 
@@ -20,6 +20,11 @@ pub struct TimedLine {
 const LETTER: u32 = 327_680;
 
 const SPACE: u32 = 163_840;
+
+/// How many words a line has, and how many pieces at most.
+const WORDS: u32 = 16;
+
+const MOST_PIECES: u32 = 160;
 
 /// A letter.
 fn letter(stock: &Stock, code: u8) -> Piece
@@ -62,7 +67,7 @@ fn pieces(alloc: Global, draws: &mut Draws, stock: &Stock) -> Result<Items<Piece
     ensures { IfOk result (All (IsTimedPiece stock.now)) }
 {
     let mut pieces = Items::new(alloc);
-    for _word in 0..7u32 {
+    for _word in 0..WORDS {
         put_word(&mut pieces, draws, stock)?;
     }
     Ok(pieces)
@@ -70,10 +75,10 @@ fn pieces(alloc: Global, draws: &mut Draws, stock: &Stock) -> Result<Items<Piece
 
 /// A width that a line of so many pieces may be set to.
 fn width(draws: &mut Draws, count: u32) -> Option<Sp> {
-    if count < 7 || count > 70 {
+    if count < WORDS || count > MOST_PIECES {
         return None;
     }
-    let natural = (count - 7) * LETTER + 7 * SPACE;
+    let natural = (count - WORDS) * LETTER + WORDS * SPACE;
     Some((natural + 1000 * draws.below(400) - 200_000) as Sp)
 }
 
@@ -83,7 +88,7 @@ fn timed(draws: &mut Draws, stock: &Stock, pieces: Items<Piece>, expand: bool) -
     ensures { IfSome result (IsTimed stock.now) }
 {
     let count = pieces.len();
-    if count > 70 {
+    if count > MOST_PIECES as usize {
         return None;
     }
     let width = width(draws, count as u32)?;

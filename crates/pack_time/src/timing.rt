@@ -1,5 +1,5 @@
 //! The rounds: lines that were made once are packed again and again.
-ghost use Rattle.std.specs.Prelude.{◌≡◌, All, map};
+ghost use Rattle.std.specs.Prelude.{◌≡◌, All, OnOk, map};
 ghost use Rattle.hpack_two.specs.Over.{base_of};
 ghost use Rattle.pack_time.specs.Timed.{IsTimed};
 
@@ -8,10 +8,13 @@ use crate::setting::{TimedLine, lines};
 use font_stock::Stock;
 use hpack_two::{PackFault, bases_of, pack};
 use instance_core::{Bases, PlainWidths, WidthSource};
+use instance_table::InstanceTable;
 use micro_num::NoMemory;
+use outside_io::NoGate;
 use std::alloc::Global;
 use std::rt::{Clock, Runtime};
 use std::time::Instant;
+use table_widths::TableWidths;
 
 /// Packs the lines, and gives how many glyphs they have.
 fn packed<W: WidthSource>(
@@ -22,6 +25,7 @@ fn packed<W: WidthSource>(
 ) -> Result<usize, PackFault>
     requires lines { All (IsTimed stock.now) lines.now }
     requires source { W.bases source.old ≡ map base_of stock.now }
+    ensures { OnOk result (W.bases source.new ≡ map base_of stock.now) }
 {
     let mut count = 0usize;
     for timed in lines {
@@ -73,6 +77,26 @@ fn packing_time<R: Clock>(
     Ok(start.elapsed(rt)?.as_micros())
 }
 
+/// The microseconds that packing lines over a table took, of which each cell that they ask for is
+/// built.
+fn table_time<R: Clock>(
+    rt: &R,
+    alloc: Global,
+    lines: &[TimedLine],
+    stock: &Stock,
+    bases: &Bases,
+) -> anyhow::Result<u128>
+    requires lines { All (IsTimed stock.now) lines.now }
+    requires bases { bases.now ≡ map base_of stock.now }
+{
+    let (table, seat) = InstanceTable::make(alloc, bases, 0)?;
+    let mut source = TableWidths::make(&table, seat, &NoGate, 0);
+    packed(alloc, lines, stock, &mut source)?;
+    let start = Instant::now(rt)?;
+    packed(alloc, lines, stock, &mut source)?;
+    Ok(start.elapsed(rt)?.as_micros())
+}
+
 /// The microseconds that copying their pieces took.
 fn copying_time<R: Clock>(rt: &R, alloc: Global, lines: &[TimedLine]) -> anyhow::Result<u128> {
     let start = Instant::now(rt)?;
@@ -90,9 +114,10 @@ pub fn run<R: Runtime>(rt: &R, alloc: Global, count: u32, rounds: u32) -> anyhow
     println!(rt; "{glyphs} glyphs, {cells} cells")?;
     for _round in 0..rounds {
         let with = packing_time(rt, alloc, &expanded, &stock, &bases)?;
+        let tabled = table_time(rt, alloc, &expanded, &stock, &bases)?;
         let without = packing_time(rt, alloc, &plain, &stock, &bases)?;
         let copying = copying_time(rt, alloc, &plain)?;
-        println!(rt; "{with} {without} {copying}")?;
+        println!(rt; "{with} {tabled} {without} {copying}")?;
     }
     Ok(())
 }

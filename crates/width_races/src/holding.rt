@@ -1,4 +1,5 @@
 //! A gate that holds whoever has claimed a cell.
+use instance_core::{Bases, Cell, cell_number};
 use micro_num::NoMemory;
 use outside_io::{Gate, Point};
 use std::alloc::Global;
@@ -69,6 +70,31 @@ impl HoldingGate {
             counted(self.claimed.as_slice(), cell),
             counted(self.published.as_slice(), cell),
         )
+    }
+
+    /// How many of the cells passed the gate once as claimed and once as published.
+    pub fn passed_once(&self, fonts: &Bases, cells: &[Cell]) -> u32 {
+        let mut once = 0u32;
+        for cell in cells {
+            if let Some(number) = cell_number(fonts, *cell) {
+                if self.passes(number) == (1, 1) {
+                    once = once.wrapping_add(1);
+                }
+            }
+        }
+        once
+    }
+
+    /// How often cells passed the gate as claimed and as published.
+    pub fn all_passes(&self, fonts: &Bases) -> (u64, u64) {
+        let mut claimed = 0u64;
+        let mut published = 0u64;
+        for number in 0..fonts.cell_count() {
+            let passes = self.passes(number);
+            claimed = claimed.wrapping_add(passes.0);
+            published = published.wrapping_add(passes.1);
+        }
+        (claimed, published)
     }
 
     /// Waits until a width was answered since, for the turns of the gate.

@@ -3,7 +3,7 @@ ghost use Rattle.std.specs.Prelude.{◌≡◌, All};
 ghost use Rattle.table_widths.specs.Widths.{IsIdle};
 
 use crate::{HoldingGate, Measured, ask_twice, plain_widths};
-use instance_core::{Bases, Cell, PlainWidths, cell_number};
+use instance_core::{Bases, Cell, PlainWidths};
 use instance_table::{InstanceTable, Seat};
 use micro_num::{NoMemory, Sp};
 use std::alloc::Global;
@@ -70,38 +70,13 @@ fn raced<R: Threads + Sync>(
     for one in crew(rt, &table, seats, fonts, widths, &gate)? {
         right = right.wrapping_add(one.right);
     }
-    let (claimed, published) = all_passes(fonts, &gate);
+    let (claimed, published) = gate.all_passes(fonts);
     Ok(Round {
         right,
-        built_once: passed_once(fonts, asked, &gate),
+        built_once: gate.passed_once(fonts, asked),
         claimed,
         published,
     })
-}
-
-/// How many of the cells passed the gate once as claimed and once as published.
-fn passed_once(fonts: &Bases, cells: &[Cell], gate: &HoldingGate) -> u32 {
-    let mut once = 0u32;
-    for cell in cells {
-        if let Some(number) = cell_number(fonts, *cell) {
-            if gate.passes(number) == (1, 1) {
-                once = once.wrapping_add(1);
-            }
-        }
-    }
-    once
-}
-
-/// How often cells passed the gate as claimed and as published.
-fn all_passes(fonts: &Bases, gate: &HoldingGate) -> (u64, u64) {
-    let mut claimed = 0u64;
-    let mut published = 0u64;
-    for number in 0..fonts.cell_count() {
-        let passes = gate.passes(number);
-        claimed = claimed.wrapping_add(passes.0);
-        published = published.wrapping_add(passes.1);
-    }
-    (claimed, published)
 }
 
 #[test]
