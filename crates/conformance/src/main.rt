@@ -6,6 +6,7 @@
 
 mod breaks_text;
 mod bytes;
+mod documents;
 mod fits;
 mod fonts;
 mod hyphenation;
@@ -14,6 +15,7 @@ mod jobs;
 mod ligatures;
 mod lists;
 mod numbers;
+mod run_text;
 mod set_lines;
 mod tfm;
 mod tokens;
@@ -23,14 +25,20 @@ use std::alloc::{AllocError, Global};
 use std::io;
 use std::io::{BufRead, BufReader};
 use std::rt::Files;
+use std::thread::Threads;
 
 /// The answer to a line, or None where the line is of an unknown kind or out of form. Fonts are
 /// read from the current folder.
-fn answer<R: Files>(rt: &R, alloc: Global, line: &str) -> Result<Option<String>, AllocError> {
+fn answer<R: Files + Threads + Sync>(
+    rt: &R,
+    alloc: Global,
+    line: &str,
+) -> Result<Option<String>, AllocError> {
     let Some((kind, left)) = line.split_once(' ') else {
         return Ok(None);
     };
     match kind {
+        "documents" => documents::answer(rt, alloc, left),
         "breaks" => lists::answer(rt, alloc, Form::Built, Asked::Breaks, left),
         "fits" => lists::fits_answer(rt, alloc, left),
         "fonts" => fonts::answer(rt, alloc, left),

@@ -1,7 +1,7 @@
 //! Runs of codes by the ligature and kern programs of small fonts.
-use crate::fonts::{lig10, loop10, tiny10};
 use lig_kern::{Glyph, LigFault, run};
 use std::test::Fail;
+use test_fonts::{lig10, loop10, tiny10};
 use tfm_read::read_tfm;
 
 #[test]

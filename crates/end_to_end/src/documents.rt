@@ -1,8 +1,8 @@
 //! Generated documents, as the readers of jobs and fonts read them.
-use crate::fonts::tiny10;
 use job_text::read_job;
 use micro_words::{gen_font, gen_job};
 use std::test::Fail;
+use test_fonts::tiny10;
 
 #[test]
 fn a_generated_document_has_its_paragraphs(rt: HostRuntime) -> Result<(), Fail> {

@@ -1,11 +1,16 @@
 //! Jobs and their answers.
-use crate::fonts::{ligature10, tiny10};
 use crate::runs::{Failing, run_words, set};
+use hlist_build::ParFault;
+use instance_core::{Cell, Owner};
+use items::Items;
+use job_fonts::FontFaultKind;
 use job_text::JobFaultKind;
+use para_workers::ParAt;
 use pdfmicro_run::Answer;
 use std::alloc::Global;
 use std::test::Fail;
 use std::thread::Threads;
+use test_fonts::{ligature10, tiny10};
 use tfm_read::TfmFaultKind;
 
 /// Three letters on a line of 100pt.
@@ -55,8 +60,9 @@ fn first_other<R: Threads + Sync>(
 }
 
 #[test]
-fn plain_jobs_are_set(rt: HostRuntime) -> Result<(), Fail> {
+fn jobs_of_one_line_each_are_set(rt: HostRuntime) -> Result<(), Fail> {
     let cases: &[Case] = &[
+        (b"", Answer::Done, 72),
         (b"\\font\\f=tiny10 \\f\n\\hsize=100pt\n", Answer::Done, 72),
         (b"\\font\\f=tiny10 \\hsize=0pt", Answer::Done, 72),
         (
@@ -90,74 +96,27 @@ fn plain_jobs_are_set(rt: HostRuntime) -> Result<(), Fail> {
 }
 
 #[test]
-fn a_line_that_is_too_long_is_told(rt: HostRuntime) -> Result<(), Fail> {
+fn a_line_that_is_too_long_is_set(rt: HostRuntime) -> Result<(), Fail> {
     let cases: &[Case] = &[
         (
-            b"\\font\\f=tiny10 \\f\n\\hsize=14pt\n\\noindent abc\n",
-            Answer::LongParagraph { paragraph: 1 },
-            0,
+            b"\\font\\f=tiny10 \\f\n\\hsize=10pt\n\\noindent abc\n",
+            Answer::Done,
+            172,
         ),
-        (
-            b"\\font\\f=tiny10 \\f\n\\hsize=14pt\n\\noindent ab\n\n\\noindent abc\n",
-            Answer::LongParagraph { paragraph: 2 },
-            0,
-        ),
-        (
-            b"\\font\\f=tiny10 \\f\\noindent abc\n\n\\hsize=14pt\\noindent abc\n",
-            Answer::LongParagraph { paragraph: 2 },
-            0,
-        ),
-    ];
-    assert_eq!(rt; first_other(&rt, rt.alloc(), cases)?, None);
-    Ok(())
-}
-
-#[test]
-fn other_fonts_and_parameters_are_not_plain(rt: HostRuntime) -> Result<(), Fail> {
-    let not_plain = Answer::NotPlain { file: 0 };
-    let cases: &[Case] = &[
-        (b"", not_plain, 0),
-        (
-            b"\\font\\f=tiny10 \\font\\g=tiny10 \\f\\noindent abc",
-            not_plain,
-            0,
-        ),
-        (b"\\font\\f=tiny10 at 10pt \\f\\noindent abc", not_plain, 0),
-        (
-            b"\\font\\f=tiny10 scaled 1000 \\f\\noindent abc",
-            not_plain,
-            0,
-        ),
-        (
-            b"\\font\\f=tiny10 \\pdffontexpand\\f 20 20 1 \\f\\noindent abc",
-            not_plain,
-            0,
-        ),
-        (b"\\font\\f=tiny10 \\f abc", not_plain, 0),
         (
             b"\\font\\f=tiny10 \\f\\hsize=0pt\\noindent abc",
-            not_plain,
-            0,
+            Answer::Done,
+            172,
         ),
         (
             b"\\font\\f=tiny10 \\f\\hsize=-1pt\\noindent abc",
-            not_plain,
-            0,
+            Answer::Done,
+            172,
         ),
         (
-            b"\\font\\f=tiny10 \\f\\parindent=0pt\\noindent abc",
-            not_plain,
-            0,
-        ),
-        (
-            b"\\font\\f=tiny10 \\f\\tolerance=201 \\noindent abc",
-            not_plain,
-            0,
-        ),
-        (
-            b"\\font\\f=tiny10 \\f\\rightskip=0pt plus 1sp\\noindent abc",
-            not_plain,
-            0,
+            b"\\font\\f=tiny10 \\f\\noindent abc\n\n\\hsize=14pt\\noindent abc\n",
+            Answer::Done,
+            228,
         ),
     ];
     assert_eq!(rt; first_other(&rt, rt.alloc(), cases)?, None);
@@ -165,26 +124,72 @@ fn other_fonts_and_parameters_are_not_plain(rt: HostRuntime) -> Result<(), Fail>
 }
 
 #[test]
-fn other_texts_are_not_plain(rt: HostRuntime) -> Result<(), Fail> {
-    let not_plain = Answer::NotPlain { file: 0 };
+fn fonts_and_parameters_that_change_no_line_change_no_byte(rt: HostRuntime) -> Result<(), Fail> {
     let cases: &[Case] = &[
         (
-            b"\\font\\f=tiny10 \\f\n\\hsize=100pt\n\\noindent a c\n",
-            not_plain,
-            0,
+            b"\\font\\f=tiny10 \\font\\g=tiny10 \\f\\noindent abc",
+            Answer::Done,
+            172,
         ),
-        (b"\\font\\f=tiny10 \\f\\noindent\\par", not_plain, 0),
-        (b"\\font\\f=tiny10 \\noindent\\par", not_plain, 0),
-        (b"\\font\\f=tiny10 \\f\\noindent a-b", not_plain, 0),
+        (
+            b"\\font\\f=tiny10 at 10pt \\f\\noindent abc",
+            Answer::Done,
+            172,
+        ),
+        (
+            b"\\font\\f=tiny10 scaled 1000 \\f\\noindent abc",
+            Answer::Done,
+            172,
+        ),
+        (
+            b"\\font\\f=tiny10 \\pdffontexpand\\f 20 20 1 \\f\\noindent abc",
+            Answer::Done,
+            172,
+        ),
+        (
+            b"\\font\\f=tiny10 \\f\\parindent=0pt\\noindent abc",
+            Answer::Done,
+            172,
+        ),
+        (
+            b"\\font\\f=tiny10 \\f\\tolerance=201 \\noindent abc",
+            Answer::Done,
+            172,
+        ),
+        (
+            b"\\font\\f=tiny10 \\f\\rightskip=0pt plus 1sp\\noindent abc",
+            Answer::Done,
+            172,
+        ),
+    ];
+    assert_eq!(rt; first_other(&rt, rt.alloc(), cases)?, None);
+    Ok(())
+}
+
+#[test]
+fn a_move_takes_four_bytes(rt: HostRuntime) -> Result<(), Fail> {
+    // Two letters for three, and one move of 32,768 sp or more where there is a space.
+    let cases: &[Case] = &[
+        (b"\\font\\f=tiny10 \\f abc", Answer::Done, 176),
+        (
+            b"\\font\\f=tiny10 \\f\n\\hsize=100pt\n\\noindent a c\n",
+            Answer::Done,
+            176,
+        ),
+        (b"\\font\\f=tiny10 \\f\\noindent a~b", Answer::Done, 176),
+        (
+            b"\\font\\f=tiny10 \\f\\noindent a\\kern1pt b",
+            Answer::Done,
+            176,
+        ),
+        (b"\\font\\f=tiny10 \\f\\noindent a-b", Answer::Done, 172),
         (
             b"\\font\\f=tiny10 \\hyphenchar\\f=98 \\f\\noindent abc",
-            not_plain,
-            0,
+            Answer::Done,
+            172,
         ),
-        (b"\\font\\f=tiny10 \\f\\noindent a~b", not_plain, 0),
-        (b"\\font\\f=tiny10 \\f\\noindent a\\kern1pt b", not_plain, 0),
-        (b"\\font\\f=tiny10 \\f\\noindent a\\f b", not_plain, 0),
-        (b"\\font\\f=tiny10 \\f\\noindent abc \\ ", not_plain, 0),
+        (b"\\font\\f=tiny10 \\f\\noindent a\\f b", Answer::Done, 172),
+        (b"\\font\\f=tiny10 \\f\\noindent abc \\ ", Answer::Done, 172),
     ];
     assert_eq!(rt; first_other(&rt, rt.alloc(), cases)?, None);
     Ok(())
@@ -232,25 +237,128 @@ fn each_font_has_its_answer(rt: HostRuntime) -> Result<(), Fail> {
     let font = tiny10(rt.alloc())?;
     let ligature = ligature10(rt.alloc())?;
     let run = set(&rt, rt.alloc(), THREE_LETTERS, ligature.as_slice())?;
-    assert_eq!(rt; run.answer, Answer::NotPlain { file: 1 });
-    let cut = font.get(..100).ok_or("no font")?;
-    let run = set(&rt, rt.alloc(), THREE_LETTERS, cut)?;
-    assert_eq!(rt;
-        run.answer,
-        Answer::Font {
-            font: 0,
+    assert_eq!(rt; run.written.as_slice(), FILE.as_slice());
+    for words in [0, 25, 114] {
+        let cut = font.get(..4 * words as usize).ok_or("no font")?;
+        let run = set(&rt, rt.alloc(), THREE_LETTERS, cut)?;
+        let kind = FontFaultKind::Tfm {
             kind: TfmFaultKind::Short,
-            word: 25
-        }
-    );
-    assert_eq!(rt; run.status, 1);
-    let mut missing = font.clone()?;
+        };
+        assert_eq!(rt;
+            run.answer,
+            Answer::Font {
+                font: 0,
+                kind,
+                word: words
+            }
+        );
+        assert_eq!(rt; run.status, 1);
+    }
+    Ok(())
+}
+
+#[test]
+fn a_missing_character_is_told_with_its_paragraph(rt: HostRuntime) -> Result<(), Fail> {
+    let mut missing = tiny10(rt.alloc())?;
     if let Some(width) = missing.get_mut(4 * (8 + 98 - 33)) {
         *width = 0;
     }
     let run = set(&rt, rt.alloc(), THREE_LETTERS, missing.as_slice())?;
-    assert_eq!(rt; run.answer, Answer::NotPlain { file: 1 });
+    let fault = ParFault::MissingChar { offset: 42 };
+    assert_eq!(rt; run.answer, par(1, fault));
     assert_eq!(rt; run.written.len(), 0);
+    let cases: &[Case] = &[(
+        b"\\font\\f=tiny10 \\f\na\n\n\\char200 a\n\na\n\na\n\n\\char200\n",
+        par(2, ParFault::MissingChar { offset: 21 }),
+        0,
+    )];
+    assert_eq!(rt; first_other(&rt, rt.alloc(), cases)?, None);
+    Ok(())
+}
+
+/// The answer to a paragraph of a number with such a fault.
+fn par(paragraph: u32, fault: ParFault) -> Answer {
+    Answer::Par {
+        at: ParAt { paragraph, fault },
+    }
+}
+
+#[test]
+fn the_greatest_size_is_one_below_the_bound(rt: HostRuntime) -> Result<(), Fail> {
+    let past = Answer::Font {
+        font: 1,
+        kind: FontFaultKind::SizePast,
+        word: 0,
+    };
+    let cases: &[Case] = &[
+        (
+            b"\\font\\f=tiny10 \\font\\g=tiny10 at 134217727sp \\f",
+            Answer::Done,
+            72,
+        ),
+        (
+            b"\\font\\f=tiny10 \\font\\g=tiny10 at 134217728sp \\f",
+            past,
+            0,
+        ),
+        (
+            b"\\font\\f=tiny10 \\font\\g=tiny10 at 134217728sp \\font\\h=other \\f",
+            past,
+            0,
+        ),
+    ];
+    assert_eq!(rt; first_other(&rt, rt.alloc(), cases)?, None);
+    Ok(())
+}
+
+/// The instances that a run of a job in the font `tiny10` built.
+fn owners<R: Threads + Sync>(rt: &R, alloc: Global, job: &[u8]) -> Result<Items<Owner>, Fail> {
+    let font = tiny10(alloc)?;
+    Ok(set(rt, alloc, job, font.as_slice())?.owners)
+}
+
+/// An instance of the first font, built by the first worker.
+fn owner(step: i32) -> Owner {
+    Owner {
+        cell: Cell { font: 0, step },
+        worker: 1,
+    }
+}
+
+#[test]
+fn expanded_fonts_are_owned_by_the_first_worker(rt: HostRuntime) -> Result<(), Fail> {
+    let job = b"\\font\\f=tiny10 \\f\n\\hsize=24pt \\pdffontexpand\\f 20 20 1 \
+        \\pdfadjustspacing=2\n\\noindent aa bb cc dd\n";
+    let cases: &[Case] = &[(job, Answer::Done, 240)];
+    assert_eq!(rt; first_other(&rt, rt.alloc(), cases)?, None);
+    let found = owners(&rt, rt.alloc(), job)?;
+    assert_eq!(rt; found.as_slice(), [owner(20)].as_slice());
+    let found = owners(
+        &rt,
+        rt.alloc(),
+        b"\\font\\f=tiny10 \\f\n\\hsize=24pt \\pdffontexpand\\f 20 20 1 \\efcode\\f 97=0 \
+        \\pdfadjustspacing=2\n\\noindent aa bb cc dd\n",
+    )?;
+    assert_eq!(rt; found.as_slice(), [owner(20)].as_slice());
+    let found = owners(
+        &rt,
+        rt.alloc(),
+        b"\\font\\f=tiny10 \\f\n\\hsize=22pt \\pdffontexpand\\f 20 20 1 \\pdfadjustspacing=2\n\
+        \\noindent aa bb cc dd\n\n\\hsize=24pt \\noindent aa bb cc dd\n",
+    )?;
+    assert_eq!(rt; found.as_slice(), [owner(-20), owner(20)].as_slice());
+    Ok(())
+}
+
+#[test]
+fn fonts_that_expand_otherwise_are_refused(rt: HostRuntime) -> Result<(), Fail> {
+    let cases: &[Case] = &[(
+        b"\\font\\f=tiny10 \\f\n\\hsize=24pt \\pdffontexpand\\f 20 20 1 \\pdfadjustspacing=2 \
+        \\font\\g=tiny10 at 12pt \\pdffontexpand\\g 30 20 1\n\\noindent a{\\g b}\n",
+        par(1, ParFault::MixedExpansion { font: 1 }),
+        0,
+    )];
+    assert_eq!(rt; first_other(&rt, rt.alloc(), cases)?, None);
     Ok(())
 }
 

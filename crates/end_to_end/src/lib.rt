@@ -9,8 +9,6 @@ mod code_runs;
 #[cfg(test)]
 mod documents;
 #[cfg(test)]
-mod fonts;
-#[cfg(test)]
 mod jobs;
 #[cfg(test)]
 mod outside;

@@ -1,10 +1,10 @@
 //! Runs whose reads and writes fail.
-use crate::fonts::tiny10;
 use crate::runs::{Failing, Run, run_words, set};
 use pdfmicro_run::Answer;
 use std::alloc::{AllocError, Global};
 use std::test::Fail;
 use std::thread::Threads;
+use test_fonts::tiny10;
 
 /// Four hundred paragraphs of three letters.
 fn many_paragraphs(alloc: Global) -> Result<Vec<u8>, AllocError> {

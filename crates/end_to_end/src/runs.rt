@@ -2,6 +2,7 @@
 ghost use Rattle.std.specs.Prelude.{IfOk};
 ghost use Rattle.outside_io.specs.Reading.{NamesDiffer};
 
+use instance_core::Owner;
 use items::Items;
 use outside_io::{MemShelf, MemSink, NoGate};
 use pdfmicro_run::{Answer, run_micro};
@@ -17,12 +18,13 @@ pub struct Failing<'a> {
     pub room: u64,
 }
 
-/// A run's status, answer and output.
+/// A run's status, answer and output, and the instances that were built.
 #[derive(Drop)]
 pub struct Run {
     pub status: u8,
     pub answer: Answer,
     pub written: Vec<u8>,
+    pub owners: Items<Owner>,
 }
 
 /// A list of two files, the job and the font `tiny10`.
@@ -85,6 +87,7 @@ pub fn run_words<R: Threads + Sync>(
         status: end.status,
         answer: end.answer,
         written: out.written().to_vec(alloc)?,
+        owners: end.owners,
     })
 }
 

@@ -1,9 +1,9 @@
 //! Each check of a TFM file, and the word that it fails at: cut files and hostile fonts.
 
-use crate::fonts::{lig10, loop10, tiny10, with_words};
 use std::alloc::{AllocError, Global};
 use std::process::Abort;
 use std::test::Fail;
+use test_fonts::{lig10, loop10, tiny10, with_words};
 use tfm_read::{TfmFault, TfmFaultKind, read_tfm};
 
 /// A fault at a word.

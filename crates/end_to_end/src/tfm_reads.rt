@@ -1,7 +1,7 @@
 //! What is read of a font's file.
 
-use crate::fonts::{bytes_of, lig10, loop10, other_font, tiny10};
 use std::test::Fail;
+use test_fonts::{bytes_of, lig10, loop10, other_font, tiny10};
 use tfm_read::{CharInfo, read_tfm};
 
 #[test]

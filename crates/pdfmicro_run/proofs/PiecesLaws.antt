@@ -6,7 +6,7 @@ use Rattle.std.proofs.KnownBytes.{Appends-nil, Appends-trans}
 use Rattle.outside_io.specs.Counts.{RisesBy}
 use Rattle.outside_io.specs.Writing.{AppendsPrefix}
 use Rattle.outside_io.specs.States.{SinkState}
-use Rattle.pdfmicro_run.specs.Run.{pieces, Writes, WritesPart}
+use Rattle.pdfmicro_run.specs.Ran.{pieces, Writes, WritesPart}
 
 -- a front was written, in as many calls as it has pieces, and the rest is to come
 pub record Fronts (bytes rest : List ℕ) (old new : SinkState) : Type 0 where

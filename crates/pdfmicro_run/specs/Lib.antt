@@ -1,9 +1,9 @@
-pub mod Galley
-pub mod GalleyReading
-pub mod GalleysReading
-pub mod PlainJob
-pub mod PlainPages
-pub mod PlainReading
-pub mod Run
+pub mod Document
+pub mod Finding
+pub mod Making
+pub mod Outcome
+pub mod Ran
+pub mod Setting
 pub mod Status
+pub mod Steps
 pub mod Words

@@ -1,17 +1,40 @@
 //! What a run answers.
 ghost use Rattle.std.specs.Prelude.{◌≡◌};
 ghost use Rattle.pdfmicro_run.specs.Status.{status_of};
+ghost use Rattle.pdfmicro_run.specs.declared.answer.Answer.TheVariants.{NoMemory};
 
 use instance_core::Owner;
 use items::Items;
+use job_fonts::FontFaultKind;
 use job_text::JobFaultKind;
-use tfm_read::TfmFaultKind;
+use para_workers::ParAt;
+use std::alloc::{AllocError, AllocFailed};
 
 /// How a run ended. File 0 is the job, and file f + 1 is font f.
 #[derive(Clone, Copy, Debug, PartialEq, Eq)]
 pub enum Answer {
     /// The command was carried out.
     Done,
+    /// The job's first fault, and the place in the file where it stands, in bytes.
+    Job {
+        offset: u32,
+        kind: JobFaultKind,
+    },
+    /// The first font that can't be had, the first fault of its TFM file or of its declaration, and
+    /// the word of the file that has it, 0 where the fault is none of the file.
+    Font {
+        font: u32,
+        kind: FontFaultKind,
+        word: u32,
+    },
+    /// The first paragraph that can't be set.
+    Par {
+        at: ParAt,
+    },
+    /// The DVI file has 2^31 bytes or more: this many.
+    DviTooLong {
+        bytes: u64,
+    },
     /// The words are no command.
     BadWords,
     /// The shelf has no such file.
@@ -22,34 +45,14 @@ pub enum Answer {
     ReadFault {
         file: u32,
     },
-    /// The file has more than 16,777,216 bytes.
-    FileTooLong {
-        file: u32,
-    },
-    /// The job's first fault, and the place in the file where it stands, in bytes.
-    Job {
-        offset: u32,
-        kind: JobFaultKind,
-    },
-    /// The job has no fault and isn't plain (file 0), or the font doesn't serve it: it has ligature
-    /// words, or lacks a code of the job (file 1).
-    NotPlain {
-        file: u32,
-    },
-    /// The font's TFM file has a fault: its kind, and its word.
-    Font {
-        font: u32,
-        kind: TfmFaultKind,
-        word: u32,
-    },
-    /// The first paragraph, counted from 1, that doesn't fit on one line of the width.
-    LongParagraph {
-        paragraph: u32,
-    },
     /// The output failed.
     OutFault,
     /// Want of memory.
     NoMemory,
+    /// The file has more than 16,777,216 bytes.
+    FileTooLong {
+        file: u32,
+    },
 }
 
 impl Answer {
@@ -59,16 +62,41 @@ impl Answer {
     {
         match self {
             Answer::Done => 0,
-            Answer::Job { .. } | Answer::Font { .. } => 1,
+            Answer::Job { .. }
+            | Answer::Font { .. }
+            | Answer::Par { .. }
+            | Answer::DviTooLong { .. } => 1,
             Answer::BadWords => 2,
             Answer::Absent { .. } => 3,
             Answer::ReadFault { .. } => 4,
             Answer::OutFault => 5,
             Answer::NoMemory => 7,
             Answer::FileTooLong { .. } => 8,
-            Answer::NotPlain { .. } => 9,
-            Answer::LongParagraph { .. } => 10,
         }
+    }
+}
+
+impl From<AllocError> for Answer {
+    ghost from_gives = { λ _ e. e ≡ NoMemory };
+
+    fn from(_error: AllocError) -> Answer {
+        Answer::NoMemory
+    }
+}
+
+impl<T: Drop> From<AllocFailed<T>> for Answer {
+    ghost from_gives = { λ _ e. e ≡ NoMemory };
+
+    fn from(_error: AllocFailed<T>) -> Answer {
+        Answer::NoMemory
+    }
+}
+
+impl From<micro_num::NoMemory> for Answer {
+    ghost from_gives = { λ _ e. e ≡ NoMemory };
+
+    fn from(_error: micro_num::NoMemory) -> Answer {
+        Answer::NoMemory
     }
 }
 

@@ -1,7 +1,7 @@
 //! Writes bytes in pieces.
 ghost use Rattle.std.specs.Prelude.{◌≡◌, ◌≤◌, OnOk, OnErr, take, drop, min, length};
 ghost use Rattle.outside_io.specs.Counts.{Rose};
-ghost use Rattle.pdfmicro_run.specs.Run.{Writes, WritesPart};
+ghost use Rattle.pdfmicro_run.specs.Ran.{Writes, WritesPart};
 
 use outside_io::{Failed, Sink};
 
@@ -10,6 +10,7 @@ pub const PIECE: usize = 16_384;
 
 /// Writes the bytes in pieces of 16,384, of which the last may be shorter.
 pub fn write_pieces<O: Sink>(out: &mut O, bytes: &[u8]) -> Result<(), Failed>
+    ensures calls { (O.state out.old).calls ≤ (O.state out.new).calls }
     ensures faults { (O.state out.old).faults ≤ (O.state out.new).faults }
     ensures ok { OnOk result (Writes bytes.now (O.state out.old) (O.state out.new)) }
     ensures failed { OnErr result (Rose (O.state out.old).faults (O.state out.new).faults) }

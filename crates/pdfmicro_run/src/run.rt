@@ -1,171 +1,87 @@
 //! The top call.
-ghost use Rattle.std.specs.Prelude.{◌≡◌, ◌≤◌, ◌<◌, ◌^◌, length, ◌⊎◌, ⊤, [], ℕ, List, IfOk, IsSome};
-ghost use Rattle.std.specs.Prelude.{Some, string_bytes};
-ghost use Rattle.outside_io.specs.Counts.{Rose, RisesBy};
-ghost use Rattle.job_reading.specs.declared.fault.JobFaultKind.{JobFaultKind as FaultKind};
-ghost use Rattle.job_text.specs.Answers.{IsFaultAt};
-ghost use Rattle.pdfmicro_run.specs.PlainReading.{IsKept};
-ghost use Rattle.pdfmicro_run.specs.Run.{IsCommand, WasRead, ReadsJob, ReadsFont, AllShort};
-ghost use Rattle.pdfmicro_run.specs.Run.{IsOutside, IsDone, font_file, AfterFont, AfterJob};
-ghost use Rattle.pdfmicro_run.specs.Run.{WithFontBytes, WithJobBytes, Explains, Causes, OutCauses};
-ghost use Rattle.pdfmicro_run.specs.Run.{ShelfCalls, ShelfCallsAfterJob, Quiet};
-ghost use Rattle.pdfmicro_run.specs.Galley.{Serves};
-ghost use Rattle.pdfmicro_run.specs.PlainJob.{IsNoPlainJob};
-ghost use Rattle.pdfmicro_run.specs.declared.plain_job.PlainJob.{PlainJob as Plain};
-ghost use Rattle.tfm_read.specs.Checks.{Fault, fault_of};
-ghost use Rattle.tfm_read.specs.declared.tfm.Tfm.{Tfm};
+ghost use Rattle.std.specs.Prelude.{◌≡◌, ◌≤◌, ◌⊎◌, ◌↔◌, length, IfOk, IfErr, None, Err};
+ghost use Rattle.job_text.specs.Answers.{said_of, IsJobOf};
+ghost use Rattle.job_text.specs.Fits.{JobFits};
+ghost use Rattle.pdfmicro_run.specs.Document.{command_of, Doc, JobFrom, IsJobRefusal};
+ghost use Rattle.pdfmicro_run.specs.Finding.{Finds};
+ghost use Rattle.pdfmicro_run.specs.Outcome.Outcome.{Refuses};
+ghost use Rattle.pdfmicro_run.specs.Ran.{outside, Ran, Exact, Complete, IsWriting, Stays};
+ghost use Rattle.pdfmicro_run.specs.Setting.{set_outcome};
 ghost use Rattle.pdfmicro_run.specs.Status.{status_of};
 ghost use Rattle.pdfmicro_run.specs.Words.{word_texts};
 
 use crate::answer::{Answer, RunEnd};
-use crate::document::{document, name_text};
-use crate::galleys::{GalleyRefused, serves};
-use crate::pieces::write_pieces;
-use crate::plain_job::{JobRefused, PlainJob, plain_job};
+use crate::files::{MOST_FILE_BYTES, read_file};
+use crate::fonts::read_fonts;
+use crate::laws::one_outcome;
+use crate::made::Made;
+use crate::setting::set_job;
+use crate::telling::tell;
 use crate::words::job_name;
 use items::Items;
-use job_text::{JobFault, one_reading, read_job};
-use outside_io::{Gate, Shelf, ShelfFault, Sink};
-use std::alloc::{AllocError, Global};
+use job_text::{Job, JobFault, read_job};
+use outside_io::{Gate, Shelf, Sink};
+use std::alloc::Global;
 use std::thread::Threads;
-use tfm_read::{Tfm, TfmFault, one_font, read_tfm};
 
-/// The greatest length of a file, in bytes.
-pub const MOST_FILE_BYTES: u64 = 16_777_216;
-
-/// Sets the job in its font and writes the file.
-fn after_font<O: Sink>(alloc: Global, job: &PlainJob, tfm: &Tfm, out: &mut O) -> Answer
-    requires { IsKept job.now }
-    ensures faults { (O.state out.old).faults ≤ (O.state out.new).faults }
-    ensures answer { AfterFont job.now tfm.now (O.state out.old) (O.state out.new) result }
-    ensures causes { OutCauses result (O.state out.old) (O.state out.new) }
-    ensures quiet { Quiet result (out.new ≡ out.old) }
+/// The job of the bytes, which are let go.
+fn job_of(alloc: Global, bytes: Items<u8>) -> Result<Job, Answer>
+    requires { length bytes ≤ MOST_FILE_BYTES }
+    ensures job { IfOk result (λ job. IsJobOf bytes (said_of job)) }
+    ensures fits { IfOk result JobFits }
+    ensures fault { IfErr result (λ answer.
+        IsJobRefusal bytes (Refuses answer) ⊎ (answer ≡ Answer.NoMemory)) }
 {
-    if !serves(tfm, job.paragraphs.as_slice()) {
-        return Answer::NotPlain { file: 1 };
-    }
-    let bytes = match document(alloc, tfm, job) {
-        Ok(bytes) => bytes,
-        Err(GalleyRefused::Long { paragraph }) => return Answer::LongParagraph { paragraph },
-        Err(GalleyRefused::NoMemory) => return Answer::NoMemory,
-    };
-    match write_pieces(out, bytes.as_slice()) {
-        Ok(()) => Answer::Done,
-        Err(_) => Answer::OutFault,
+    match read_job(alloc, bytes.as_slice()) {
+        Ok(job) => Ok(job),
+        Err(JobFault::At { offset, kind }) => Err(Answer::Job { offset, kind }),
+        Err(JobFault::NoMemory) => Err(Answer::NoMemory),
     }
 }
 
-/// The name of the font's file.
-fn font_name(alloc: Global, job: &PlainJob) -> Result<String, AllocError>
-    requires { IsKept job.now }
-    ensures { IfOk result (λ name. string_bytes name ≡ font_file job.now) }
+/// What the job of the bytes and its fonts come to.
+fn from_job<S: Shelf>(alloc: Global, bytes: Items<u8>, shelf: &mut S) -> Result<Made, Answer>
+    requires { length bytes ≤ MOST_FILE_BYTES }
+    ensures { Finds 1 (JobFrom set_outcome bytes) (S.state shelf.old) (S.state shelf.new) result }
 {
-    let mut name = name_text(alloc, job.name.as_slice())?;
-    name.push_str(".tfm")?;
-    Ok(name)
-}
-
-/// Reads the font that the bytes are, sets the job in it and writes the file.
-fn with_font<O: Sink>(alloc: Global, job: &PlainJob, bytes: &[u8], out: &mut O) -> Answer
-    requires { IsKept job.now }
-    ensures faults { (O.state out.old).faults ≤ (O.state out.new).faults }
-    ensures answer { WithFontBytes job.now bytes.now (O.state out.old) (O.state out.new) result }
-    ensures causes { OutCauses result (O.state out.old) (O.state out.new) }
-    ensures quiet { Quiet result (out.new ≡ out.old) }
-{
-    match read_tfm(alloc, bytes) {
-        Ok(tfm) => after_font(alloc, job, &tfm, out),
-        Err(TfmFault::At { kind, word }) => Answer::Font {
-            font: 0,
-            kind,
-            word,
-        },
-        Err(TfmFault::NoMemory) => Answer::NoMemory,
-    }
-}
-
-/// Reads the job's font, sets the job and writes the file.
-fn after_job<S: Shelf, O: Sink>(alloc: Global, job: &PlainJob, shelf: &mut S, out: &mut O) -> Answer
-    requires { IsKept job.now }
-    ensures answer { let files = (S.state shelf.old).files in
-        AfterJob files job.now (O.state out.old) (O.state out.new) result }
-    ensures causes { Causes result (S.state shelf.old) (S.state shelf.new)
-        (O.state out.old) (O.state out.new) }
-    ensures calls { ShelfCallsAfterJob result (S.state shelf.old).calls (S.state shelf.new).calls }
-    ensures files { (S.state shelf.new).files ≡ (S.state shelf.old).files }
-    ensures quiet { Quiet result (out.new ≡ out.old) }
-{
-    let Ok(name) = font_name(alloc, job) else {
-        return Answer::NoMemory;
-    };
-    match shelf.read(alloc, name.as_str(), MOST_FILE_BYTES) {
-        Ok(bytes) => with_font(alloc, job, bytes.as_slice(), out),
-        Err(ShelfFault::Absent) => Answer::Absent { file: 1 },
-        Err(ShelfFault::TooLong { .. }) => Answer::FileTooLong { file: 1 },
-        Err(ShelfFault::Failed) => Answer::ReadFault { file: 1 },
-        Err(ShelfFault::NoMemory) => Answer::NoMemory,
-    }
-}
-
-/// Reads the job that the bytes spell, sets it where it is plain, and writes the file.
-fn with_job<S: Shelf, O: Sink>(alloc: Global, bytes: &[u8], shelf: &mut S, out: &mut O) -> Answer
-    requires { length bytes.now < 2 ^ 32 }
-    ensures answer { let files = (S.state shelf.old).files in
-        WithJobBytes files bytes.now (O.state out.old) (O.state out.new) result }
-    ensures causes { Causes result (S.state shelf.old) (S.state shelf.new)
-        (O.state out.old) (O.state out.new) }
-    ensures calls { ShelfCallsAfterJob result (S.state shelf.old).calls (S.state shelf.new).calls }
-    ensures quiet { Quiet result (out.new ≡ out.old) }
-{
-    let job = match read_job(alloc, bytes) {
+    let job = match job_of(alloc, bytes) {
         Ok(job) => job,
-        Err(JobFault::At { offset, kind }) => return Answer::Job { offset, kind },
-        Err(JobFault::NoMemory) => return Answer::NoMemory,
+        Err(answer) => return Err(answer),
     };
-    match plain_job(alloc, &job) {
-        Ok(plain) => after_job(alloc, &plain, shelf, out),
-        Err(JobRefused::NotPlain) => Answer::NotPlain { file: 0 },
-        Err(JobRefused::NoMemory) => Answer::NoMemory,
-    }
+    let stock = match read_fonts(alloc, &job, shelf) {
+        Ok(stock) => stock,
+        Err(answer) => return Err(answer),
+    };
+    set_job(alloc, job, &stock)
 }
 
-/// Runs the command: reads the job and its font, sets the job and writes the file.
-fn answer_of<S: Shelf, O: Sink>(
-    alloc: Global,
-    words: &[String],
-    shelf: &mut S,
-    out: &mut O,
-) -> Answer
-    ensures answer { let files = (S.state shelf.old).files in
-        Explains files (word_texts words.now) (O.state out.old) (O.state out.new) result }
-    ensures causes { Causes result (S.state shelf.old) (S.state shelf.new)
-        (O.state out.old) (O.state out.new) }
-    ensures calls { ShelfCalls result (S.state shelf.old).calls (S.state shelf.new).calls }
-    ensures quiet { Quiet result (out.new ≡ out.old) }
-    ensures bad_words { ((name : List ℕ) → IsCommand (word_texts words.now) name → ⊥)
-        → result ≡ Answer.BadWords }
+/// What the words, the job that they name and its fonts come to.
+fn find<S: Shelf>(alloc: Global, words: &[String], shelf: &mut S) -> Result<Made, Answer>
+    ensures finds { Finds 0 (Doc (word_texts words.now))
+        (S.state shelf.old) (S.state shelf.new) result }
+    ensures bad_words { command_of (word_texts words.now) ≡ None
+        → result ≡ Err Answer.BadWords }
 {
     let Some(name) = job_name(words) else {
-        return Answer::BadWords;
+        return Err(Answer::BadWords);
     };
-    match shelf.read(alloc, name, MOST_FILE_BYTES) {
-        Ok(bytes) => with_job(alloc, bytes.as_slice(), shelf, out),
-        Err(ShelfFault::Absent) => Answer::Absent { file: 0 },
-        Err(ShelfFault::TooLong { .. }) => Answer::FileTooLong { file: 0 },
-        Err(ShelfFault::Failed) => Answer::ReadFault { file: 0 },
-        Err(ShelfFault::NoMemory) => Answer::NoMemory,
-    }
+    let bytes = match read_file(alloc, name, 0, shelf) {
+        Ok(bytes) => bytes,
+        Err(answer) => return Err(answer),
+    };
+    from_job(alloc, bytes, shelf)
 }
 
 /// Carries out the words of a command line: a program's name, `set` and the name of a job. It reads
-/// the job and its font from the shelf, sets each paragraph of a plain job on one line of a page of
-/// its own and writes the DVI file to the output, in pieces of 16,384 bytes. Nothing is written to
-/// `talk`, the gate isn't passed, and no thread is started.
+/// the job and its fonts from the shelf in the order of declaration, sets each paragraph as a page
+/// and writes the DVI file to the output, in pieces of 16,384 bytes. Nothing is written to `talk`,
+/// the gate isn't passed, and no thread is started.
 ///
-/// Each answer comes with its cause, in the order of the words, the job's read, its grammar, its
-/// form, the font's read, its TFM checks, its form, the paragraphs and the writing; want of memory
-/// may come in the place of any but `BadWords`. An answer that blames the outside comes only where
-/// the outside counted it. After every answer but `Done` and `OutFault` the output is as before.
+/// The first fault is the answer, in the order of the words, the job's read, its grammar, each
+/// font's read, its file, size and widths, the paragraphs, the file's length and the writing; want
+/// of memory may come in the place of any but `BadWords`. An answer that blames the outside comes
+/// only where the outside counted it. After every answer but `Done` and `OutFault` the output is as
+/// before.
 pub fn run_micro<R: Threads + Sync, S: Shelf, O: Sink, T: Sink, G: Gate + Sync>(
     _rt: &R,
     alloc: Global,
@@ -176,62 +92,36 @@ pub fn run_micro<R: Threads + Sync, S: Shelf, O: Sink, T: Sink, G: Gate + Sync>(
     _gate: &G,
 ) -> RunEnd
     ensures status { result.status ≡ status_of result.answer }
-    ensures owners { result.owners ≡ [] }
 
-    // What the answer says of the words, of the files and of what was written.
-    ensures answer { let files = (S.state shelf.old).files in
-        Explains files (word_texts words.now) (O.state out.old) (O.state out.new) result.answer }
+    // What was read, what it comes to, and what was written of it, whatever the outside told.
+    ensures ran { Ran (Doc (word_texts words.now))
+        (outside (S.state shelf.old) (O.state out.old) (T.state _talk.old))
+        (outside (S.state shelf.new) (O.state out.new) (T.state _talk.new)) result }
 
-    // What it says of the outside.
-    ensures causes { Causes result.answer (S.state shelf.old) (S.state shelf.new)
-        (O.state out.old) (O.state out.new) }
-    ensures shelf_calls { ShelfCalls result.answer
-        (S.state shelf.old).calls (S.state shelf.new).calls }
-    ensures out_unchanged { Quiet result.answer (out.new ≡ out.old) }
-    ensures talk_unchanged { _talk.new ≡ _talk.old }
-
-    // Where the shelf tells its files and has a plain job and its font, they determine the answer.
-    ensures determined { let files = (S.state shelf.old).files in
-        (job : Plain) (tfm : Tfm) → IsSome files
-        → ReadsJob files (word_texts words.now) job → ReadsFont files job tfm
-        → IsOutside result.answer
-        ⊎ AfterFont job tfm (O.state out.old) (O.state out.new) result.answer }
-
-    // So do a job with a fault, one that isn't plain, a font with a fault, and words that are no
-    // command.
-    ensures job_fault { let files = (S.state shelf.old).files in
-        (name bytes : List ℕ) (place : ℕ) (kind : FaultKind) → IsSome files
-        → IsCommand (word_texts words.now) name → WasRead files name bytes
-        → IsFaultAt bytes place kind
-        → IsOutside result.answer ⊎ (result.answer ≡ Answer.Job place kind) }
-    ensures form_fault { let files = (S.state shelf.old).files in
-        (name bytes : List ℕ) → IsSome files
-        → IsCommand (word_texts words.now) name → WasRead files name bytes
-        → IsNoPlainJob bytes
-        → IsOutside result.answer ⊎ (result.answer ≡ Answer.NotPlain 0) }
-    ensures font_fault { let files = (S.state shelf.old).files in
-        (job : Plain) (bytes : List ℕ) (fault : Fault) → IsSome files
-        → ReadsJob files (word_texts words.now) job → WasRead files (font_file job) bytes
-        → fault_of bytes ≡ Some fault
-        → IsOutside result.answer ⊎ (result.answer ≡ Answer.Font 0 fault.kind fault.word) }
-    ensures bad_words { ((name : List ℕ) → IsCommand (word_texts words.now) name → ⊥)
-        → result.answer ≡ Answer.BadWords }
+    // Where the shelf tells its files, they determine the answer and what is written.
+    ensures exact { Exact (Doc (word_texts words.now))
+        (outside (S.state shelf.old) (O.state out.old) (T.state _talk.old))
+        (outside (S.state shelf.new) (O.state out.new) (T.state _talk.new)) result }
 
     // A job that can be set is set, where no read and no write fails.
-    ensures complete { let files = (S.state shelf.old).files in
-        (job : Plain) (tfm : Tfm) → IsSome files
-        → ReadsJob files (word_texts words.now) job → ReadsFont files job tfm
-        → Serves tfm job.paragraphs → AllShort tfm job
-        → ¬ Rose (S.state shelf.old).faults (S.state shelf.new).faults
-        → ¬ Rose (O.state out.old).faults (O.state out.new).faults
-        → IsDone result.answer }
+    ensures complete { Complete (Doc (word_texts words.now))
+        (outside (S.state shelf.old) (O.state out.old) (T.state _talk.old))
+        (outside (S.state shelf.new) (O.state out.new) (T.state _talk.new)) result.answer }
+
+    // Nothing but the words makes this answer, and these words make no other.
+    ensures bad_words { (command_of (word_texts words.now) ≡ None)
+        ↔ (result.answer ≡ Answer.BadWords) }
+
+    // Before any other answer than these two, no write was tried; talk is never written to.
+    ensures out_unchanged { IsWriting result.answer ⊎ (out.new ≡ out.old) }
+    ensures talk_unchanged { _talk.new ≡ _talk.old }
+
+    // The outside keeps its files, and its counts never fall.
+    ensures stays { Stays
+        (outside (S.state shelf.old) (O.state out.old) (T.state _talk.old))
+        (outside (S.state shelf.new) (O.state out.new) (T.state _talk.new)) }
 {
-    one_font();
-    one_reading();
-    let answer = answer_of(alloc, words, shelf, out);
-    RunEnd {
-        status: answer.status(),
-        answer,
-        owners: Items::new(alloc),
-    }
+    one_outcome();
+    let found = find(alloc, words, shelf);
+    tell(alloc, found, out)
 }

@@ -1,13 +1,12 @@
 //! The words of the command line.
-ghost use Rattle.std.specs.Prelude.{◌≡◌, ℕ, List, MatchOption};
-ghost use Rattle.pdfmicro_run.specs.Run.{IsCommand};
+ghost use Rattle.std.specs.Prelude.{◌≡◌, MatchOption, Some, None};
+ghost use Rattle.pdfmicro_run.specs.Document.{command_of};
 ghost use Rattle.pdfmicro_run.specs.Words.{word_texts};
 
 /// The job that the words name: they are a program's name, `set` and the job's name.
-pub fn job_name(words: &[String]) -> Option<&str>
-    ensures { let words = word_texts words.now in
-        MatchOption result ((name : List ℕ) → IsCommand words name → ⊥)
-        (λ name. IsCommand words name.now) }
+pub(crate) fn job_name(words: &[String]) -> Option<&str>
+    ensures { MatchOption result (command_of (word_texts words.now) ≡ None)
+        (λ name. command_of (word_texts words.now) ≡ Some name.now) }
 {
     if words.len() != 3 {
         return None;

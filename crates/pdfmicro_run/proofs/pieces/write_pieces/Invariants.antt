@@ -8,6 +8,7 @@ invariant-loop-rest g l =
     let sink = g.O.Sink in
     record {
       written : Fronts l.bytes l.rest (sink.state l.fn.out) (sink.state l.out);
+      calls : (sink.state l.fn.out).calls ≤ (sink.state l.out).calls;
       faults : (sink.state l.fn.out).faults ≤ (sink.state l.out).faults;
     }
 

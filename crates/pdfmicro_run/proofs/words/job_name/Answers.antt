@@ -4,6 +4,7 @@ use Rattle.std.proofs.lemmas.Bool.Decides.{Decides-eqb}
 use Rattle.std.specs.String.{string_bytes}
 use Rattle.std.specs.declared.string.String.{String}
 use Rattle.std.specs.declared.alloc.Global.{Global}
+use Rattle.pdfmicro_run.specs.Document.{command_of}
 use Rattle.pdfmicro_run.specs.Words.{word_texts}
 use Rattle.pdfmicro_run.proofs.words.job_name.Goals as goal
 
@@ -26,5 +27,5 @@ not_false false h = h
 pub returns : goal.returns
 returns c =
     let equal = (slice_eq-Decides Decides-eqb c.as_str.result.now (codes "set") _ refl).0 (not_false _ (sym c.if-ne.false ∙ c.ne.ensures)) in
-    three c.args.words.now c.index-words-1.result c.index-words-2.result (codes "set") c.as_str-2.result.now c.if-words-ne3.false c.index-words-1.is c.index-words-2.is
-    (sym c.as_str.ensures.value ∙ equal) (sym c.as_str-2.ensures.value)
+    ap command_of (three c.args.words.now c.index-words-1.result c.index-words-2.result (codes "set") c.as_str-2.result.now c.if-words-ne3.false c.index-words-1.is c.index-words-2.is
+    (sym c.as_str.ensures.value ∙ equal) (sym c.as_str-2.ensures.value)).1
