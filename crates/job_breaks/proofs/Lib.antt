@@ -1,0 +1,2 @@
+pub mod ParLines
+pub mod PassTaken

@@ -1,0 +1,4 @@
+pub mod Breaks
+pub mod Messages
+pub mod Reports
+pub mod Status
