@@ -1,5 +1,5 @@
 //! Jobs and their answers.
-use crate::runs::{Failing, run_words, set};
+use crate::runs::set;
 use hlist_build::ParFault;
 use instance_core::{Cell, Owner};
 use items::Items;
@@ -359,35 +359,5 @@ fn fonts_that_expand_otherwise_are_refused(rt: HostRuntime) -> Result<(), Fail> 
         0,
     )];
     assert_eq!(rt; first_other(&rt, rt.alloc(), cases)?, None);
-    Ok(())
-}
-
-#[test]
-fn other_words_are_bad(rt: HostRuntime) -> Result<(), Fail> {
-    let font = tiny10(rt.alloc())?;
-    let failing = Failing {
-        reads: &[1],
-        writes: &[],
-        room: 0,
-    };
-    let words: [&[&str]; 5] = [
-        &["pdfmicro", "set"],
-        &["pdfmicro", "set", "j", "j"],
-        &["pdfmicro", "breaks", "j"],
-        &["pdfmicro"],
-        &[],
-    ];
-    for words in words {
-        let run = run_words(
-            &rt,
-            rt.alloc(),
-            words,
-            THREE_LETTERS,
-            font.as_slice(),
-            &failing,
-        )?;
-        assert_eq!(rt; run.answer, Answer::BadWords);
-        assert_eq!(rt; run.status, 2);
-    }
     Ok(())
 }

@@ -1,5 +1,6 @@
-//! Whole runs, over files and outputs in memory: jobs with their answers, and an outside that
-//! fails; the fonts that they are set in, read, refused and run; and generated documents.
+//! Whole runs, over files and outputs in memory: jobs with their answers, each command with what it
+//! tells, and an outside that fails; the fonts that they are set in, read, refused and run; and
+//! generated documents.
 //!
 //! The crate has tests alone. What they expect was worked out by hand from the formats.
 #![tactic(auto)]
@@ -7,9 +8,13 @@
 #[cfg(test)]
 mod code_runs;
 #[cfg(test)]
+mod commands;
+#[cfg(test)]
 mod documents;
 #[cfg(test)]
 mod jobs;
+#[cfg(test)]
+mod messages;
 #[cfg(test)]
 mod outside;
 #[cfg(test)]

@@ -28,6 +28,7 @@ fn with_failing<R: Threads + Sync>(
     let failing = Failing {
         reads,
         writes,
+        lines: &[],
         room,
     };
     run_words(

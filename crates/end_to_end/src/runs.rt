@@ -10,21 +10,39 @@ use std::alloc::{AllocError, Global};
 use std::test::Fail;
 use std::thread::Threads;
 
-/// What fails in a run: reads and writes by their numbers, from 1, and the room for the output.
-#[derive(Drop)]
+/// What fails in a run: reads, writes to the output and writes to talk by their numbers, from 1,
+/// and the room for the output.
+#[derive(Clone, Copy, Drop)]
 pub struct Failing<'a> {
     pub reads: &'a [u64],
     pub writes: &'a [u64],
+    pub lines: &'a [u64],
     pub room: u64,
 }
 
-/// A run's status, answer and output, and the instances that were built.
+/// Nothing fails.
+pub const SOUND: Failing<'static> = Failing {
+    reads: &[],
+    writes: &[],
+    lines: &[],
+    room: 100_000,
+};
+
+/// A run's status, answer, output and talk, and the instances that were built.
 #[derive(Drop)]
 pub struct Run {
     pub status: u8,
     pub answer: Answer,
     pub written: Vec<u8>,
+    pub told: Vec<u8>,
     pub owners: Items<Owner>,
+}
+
+impl Run {
+    /// What was told on talk, as text.
+    pub fn told(&self) -> &str {
+        str::from_utf8(self.told.as_slice()).unwrap_or("no text")
+    }
 }
 
 /// A list of two files, the job and the font `tiny10`.
@@ -73,7 +91,8 @@ pub fn run_words<R: Threads + Sync>(
     let mut shelf = MemShelf::make(two_files(alloc, job, font)?, reads);
     let mut out = MemSink::make(alloc, writes);
     out.reserve(failing.room)?;
-    let mut talk = MemSink::make(alloc, Items::new(alloc));
+    let mut talk = MemSink::make(alloc, Items::from_slice(alloc, failing.lines)?);
+    talk.reserve(100_000)?;
     let end = run_micro(
         rt,
         alloc,
@@ -87,16 +106,12 @@ pub fn run_words<R: Threads + Sync>(
         status: end.status,
         answer: end.answer,
         written: out.written().to_vec(alloc)?,
+        told: talk.written().to_vec(alloc)?,
         owners: end.owners,
     })
 }
 
 /// Sets the job in the font, with room enough and nothing that fails.
 pub fn set<R: Threads + Sync>(rt: &R, alloc: Global, job: &[u8], font: &[u8]) -> Result<Run, Fail> {
-    let failing = Failing {
-        reads: &[],
-        writes: &[],
-        room: 100_000,
-    };
-    run_words(rt, alloc, &["pdfmicro", "set", "j"], job, font, &failing)
+    run_words(rt, alloc, &["pdfmicro", "set", "j"], job, font, &SOUND)
 }

@@ -9,16 +9,18 @@ use Rattle.std.proofs.lemmas.List.{get_or_default}
 use Rattle.outside_io.specs.Counts.{Rose}
 use Rattle.outside_io.specs.Reading.{NamesDiffer, HasFile}
 use Rattle.outside_io.specs.States.{ShelfState}
-use Rattle.pdfmicro_run.specs.declared.answer.Answer.{Answer}
-use Rattle.pdfmicro_run.specs.declared.answer.Answer.TheVariants.{ReadFault, NoMemory}
-use Rattle.pdfmicro_run.specs.declared.answer.RunEnd.{RunEnd}
-use Rattle.pdfmicro_run.specs.declared.made.Made.{Made}
-use Rattle.pdfmicro_run.specs.Outcome.{Output, Outcome, Document, behind, AtMostOne}
-use Rattle.pdfmicro_run.specs.Outcome.Outcome.{Wants, Refuses, Gives}
-use Rattle.pdfmicro_run.specs.Finding.{Files, WasRead, IsMissing, IsTooBig, AreReads, Misses, Comes, IsDecided, IsUndecided, Finds}
-use Rattle.pdfmicro_run.specs.Finding.Misses.{is_absent, is_too_long, has_failed, is_unread}
+use Rattle.micro_texts.specs.declared.answer.Answer.{Answer}
+use Rattle.micro_texts.specs.declared.answer.Answer.TheVariants.{ReadFault, NoMemory}
+use Rattle.micro_document.specs.declared.made.Made.{Made}
+use Rattle.micro_document.specs.declared.stop.Stop.{Stop}
+use Rattle.micro_document.specs.Outcome.{Output, Outcome, Document, behind, AtMostOne}
+use Rattle.micro_document.specs.Outcome.Outcome.{Wants, Refuses, Gives}
+use Rattle.micro_document.specs.Finding.{Files, WasRead, IsMissing, IsTooBig, AreReads, Misses, Comes, IsDecided, IsUndecided, Finds}
+use Rattle.micro_document.specs.Finding.Misses.{is_absent, is_too_long, has_failed, is_unread}
+use Rattle.micro_document.specs.Stopping.{stop_of, stop_at}
+use Rattle.micro_document.proofs.Findings.{stays_same, comes_before}
+use Rattle.pdfmicro_run.specs.declared.ending.RunEnd.{RunEnd}
 use Rattle.pdfmicro_run.specs.Ran.{Outside, Tells, Ran, IsLast, Says, IsReadFault, IsInterrupted, Exact, IsDone, Complete}
-use Rattle.pdfmicro_run.proofs.Findings.{stays_same, comes_before}
 
 -- two files at places in a list in which no two have one name
 same_place : (files : List (List ℕ × List ℕ)) (name a b : List ℕ) (i j : ℕ) → NamesDiffer files → i < length files → j < length files → get_or files i (name, a) ≡ (name, a) → get_or files j (name, b) ≡ (name, b) → (i ≡ j) ⊎ ((i < j) ⊎ (j < i)) → a ≡ b
@@ -89,29 +91,30 @@ meets D files some differ one (a ∷ reads) (b ∷ others) outcome other p q is 
 
 -- ---- what was found
 
-record IsLostRead (files : ℕ) (shelf later : ShelfState) (found : Result Made Answer) : Type 0 where
+record IsLostRead (files : ℕ) (shelf later : ShelfState) (found : Result Made Stop) : Type 0 where
   file : ℕ
+  name : List ℕ
   within : file ≤ files
-  is : found ≡ Err (ReadFault file)
+  is : found ≡ Err (stop_at name (ReadFault file))
   cause : Rose shelf.faults later.faults
 
-abbrev IsStopped : ℕ → ShelfState → ShelfState → Result Made Answer → Type 0
-IsStopped files shelf later found = (found ≡ Err NoMemory) ⊎ IsLostRead files shelf later found
+abbrev IsStopped : ℕ → ShelfState → ShelfState → Result Made Stop → Type 0
+IsStopped files shelf later found = (found ≡ Err (stop_of NoMemory)) ⊎ IsLostRead files shelf later found
 
 -- a file was wanted that can be read
-stopped_missing : (files file : ℕ) (name bytes : List ℕ) (shelf later : ShelfState) (answer : Answer) → file ≤ files → IsSome shelf.files → IfSome shelf.files NamesDiffer → WasRead shelf.files name bytes
-    → Misses name file shelf later answer → IsStopped files shelf later (Err answer)
-stopped_missing files file name bytes shelf later answer within some differ read (is_absent is rose missing) = absurd (not_missing shelf.files name bytes some missing read)
-stopped_missing files file name bytes shelf later answer within some differ read (is_too_long is rose big) = absurd (not_too_big shelf.files name bytes some differ big read)
-stopped_missing files file name bytes shelf later answer within some differ read (has_failed is rose) = inr (record { file = file; within = within; is = ap Err is; cause = rose })
-stopped_missing files file name bytes shelf later answer within some differ read (is_unread is) = inl (ap Err is)
+stopped_missing : (files file : ℕ) (name bytes : List ℕ) (shelf later : ShelfState) (stop : Stop) → file ≤ files → IsSome shelf.files → IfSome shelf.files NamesDiffer → WasRead shelf.files name bytes
+    → Misses name file shelf later stop → IsStopped files shelf later (Err stop)
+stopped_missing files file name bytes shelf later stop within some differ read (is_absent is rose missing) = absurd (not_missing shelf.files name bytes some missing read)
+stopped_missing files file name bytes shelf later stop within some differ read (is_too_long is rose big) = absurd (not_too_big shelf.files name bytes some differ big read)
+stopped_missing files file name bytes shelf later stop within some differ read (has_failed is rose) = inr (record { file = file; name = name; within = within; is = ap Err is; cause = rose })
+stopped_missing files file name bytes shelf later stop within some differ read (is_unread is) = inl (ap Err is)
 
-stopped : (files file : ℕ) (name bytes : List ℕ) (shelf later : ShelfState) (found : Result Made Answer) → file ≤ files → IsSome shelf.files → IfSome shelf.files NamesDiffer → WasRead shelf.files name bytes
+stopped : (files file : ℕ) (name bytes : List ℕ) (shelf later : ShelfState) (found : Result Made Stop) → file ≤ files → IsSome shelf.files → IfSome shelf.files NamesDiffer → WasRead shelf.files name bytes
     → Comes (Wants name) file shelf later found → IsStopped files shelf later found
 stopped files file name bytes shelf later (Ok made) within some differ read comes = absurd comes
-stopped files file name bytes shelf later (Err answer) within some differ read comes = stopped_missing files file name bytes shelf later answer within some differ read comes
+stopped files file name bytes shelf later (Err stop) within some differ read comes = stopped_missing files file name bytes shelf later stop within some differ read comes
 
-met : (first : ℕ) (shelf later : ShelfState) (found : Result Made Answer) (reads others : List (List ℕ)) (outcome other : Outcome) → IsSome shelf.files → IfSome shelf.files NamesDiffer
+met : (first : ℕ) (shelf later : ShelfState) (found : Result Made Stop) (reads others : List (List ℕ)) (outcome other : Outcome) → IsSome shelf.files → IfSome shelf.files NamesDiffer
     → Comes other (first + length others) shelf later found → Meets shelf.files reads others outcome other
     → IsStopped (first + length reads) shelf later found ⊎ Comes outcome (first + length reads) shelf later found
 met first shelf later found reads others outcome other some differ comes (are_same count is) =
@@ -121,7 +124,7 @@ met first shelf later found reads others outcome other some differ comes (is_fro
     let P : Outcome → Type 0 = λ o. Comes o (first + length others) shelf later found in
     inl (stopped (first + length reads) (first + length others) name bytes shelf later found (omega (arith, within)) some differ read (subst P is comes))
 
-exact_ends : (first : ℕ) (D : Document) (shelf later : ShelfState) (found : Result Made Answer) (reads others : List (List ℕ)) (outcome : Outcome) → IsSome shelf.files → IfSome shelf.files NamesDiffer → AtMostOne D
+exact_ends : (first : ℕ) (D : Document) (shelf later : ShelfState) (found : Result Made Stop) (reads others : List (List ℕ)) (outcome : Outcome) → IsSome shelf.files → IfSome shelf.files NamesDiffer → AtMostOne D
     → AreReads D shelf.files reads → AreReads D shelf.files others → D reads outcome → IsLast shelf.files outcome
     → IsDecided first D others shelf later found ⊎ IsUndecided others shelf later found
     → IsStopped (first + length reads) shelf later found ⊎ Comes outcome (first + length reads) shelf later found
@@ -131,21 +134,29 @@ exact_ends first D shelf later found reads others outcome some differ one p q is
 
 -- ---- what is told of it
 
-answer_told : (found : Result Made Answer) (answer : Answer) (before after : Outside) (end : RunEnd) → found ≡ Err answer → Tells found before after end → end.answer ≡ answer
-answer_told found answer before after end is tells =
-    let P : Result Made Answer → Type 0 = λ r. Tells r before after end in
-    (subst P is tells).answer
+-- the answer of a stop, or that memory ran out while its message was made
+pub answer_told : (found : Result Made Stop) (stop : Stop) (before after : Outside) (end : RunEnd) → found ≡ Err stop → Tells found before after end → (end.answer ≡ stop.answer) ⊎ (end.answer ≡ NoMemory)
+answer_told found stop before after end is tells =
+    let P : Result Made Stop → Type 0 = λ r. Tells r before after end in
+    elim (subst P is tells).says as (λ _. (end.answer ≡ stop.answer) ⊎ (end.answer ≡ NoMemory)) [
+      | inl told ↦ inl told.0
+      | inr lost ↦ inr lost.0
+    ]
 
-interrupted : (files count : ℕ) (found : Result Made Answer) (before after : Outside) (end : RunEnd) → count ≡ files → Tells found before after end → IsStopped count before.shelf after.shelf found → IsInterrupted files before after end.answer
-interrupted files count found before after end e tells (inl is) = inl (answer_told found NoMemory before after end is tells)
-interrupted files count found before after end e tells (inr lost) = inr (record {
-  file = lost.file;
-  within = omega (arith, lost.within);
-  is = answer_told found (ReadFault lost.file) before after end lost.is tells;
-  cause = lost.cause;
-})
+no_memory : (answer : Answer) → (answer ≡ NoMemory) ⊎ (answer ≡ NoMemory) → answer ≡ NoMemory
+no_memory answer (inl is) = is
+no_memory answer (inr is) = is
 
-said : (outcome : Outcome) (files count : ℕ) (found : Result Made Answer) (before after : Outside) (end : RunEnd) → count ≡ files → Tells found before after end
+lost_told : (files : ℕ) (before after : Outside) (answer : Answer) (file : ℕ) → file ≤ files → Rose before.shelf.faults after.shelf.faults → (answer ≡ ReadFault file) ⊎ (answer ≡ NoMemory) → IsInterrupted files before after answer
+lost_told files before after answer file within rose (inl is) = inr (record { file = file; within = within; is = is; cause = rose })
+lost_told files before after answer file within rose (inr is) = inl is
+
+interrupted : (files count : ℕ) (found : Result Made Stop) (before after : Outside) (end : RunEnd) → count ≡ files → Tells found before after end → IsStopped count before.shelf after.shelf found → IsInterrupted files before after end.answer
+interrupted files count found before after end e tells (inl is) = inl (no_memory end.answer (answer_told found (stop_of NoMemory) before after end is tells))
+interrupted files count found before after end e tells (inr lost) =
+    lost_told files before after end.answer lost.file (omega (arith, lost.within)) lost.cause (answer_told found (stop_at lost.name (ReadFault lost.file)) before after end lost.is tells)
+
+said : (outcome : Outcome) (files count : ℕ) (found : Result Made Stop) (before after : Outside) (end : RunEnd) → count ≡ files → Tells found before after end
     → IsStopped count before.shelf after.shelf found ⊎ Comes outcome count before.shelf after.shelf found
     → IsInterrupted files before after end.answer ⊎ Says outcome files before after end
 said outcome files count found before after end e tells (inl stopped) = inl (interrupted files count found before after end e tells stopped)
@@ -160,18 +171,19 @@ exact_run D before after end differ one ran = λ reads outcome some each is last
     said outcome (length reads) (0 + length reads) ran.found before after end (omega arith) ran.tells
     (exact_ends 0 D before.shelf after.shelf ran.found reads ran.finds.reads outcome some differ one each ran.finds.each is last ran.finds.ends)
 
-done_told : (output : Output) (files : ℕ) (found : Result Made Answer) (before after : Outside) (end : RunEnd) → ¬ Rose before.out.faults after.out.faults
+done_told : (output : Output) (files : ℕ) (found : Result Made Stop) (before after : Outside) (end : RunEnd) → ¬ Rose before.out.faults after.out.faults → ¬ Rose before.talk.faults after.talk.faults
     → Comes (Gives output) files before.shelf after.shelf found → Tells found before after end → IsDone end.answer
-done_told output files (Err answer) before after end no_out comes tells = absurd comes
-done_told output files (Ok made) before after end no_out comes (inl written) = inl written.answer
-done_told output files (Ok made) before after end no_out comes (inr broken) = absurd (no_out broken.cause)
+done_told output files (Err stop) before after end no_out no_talk comes tells = absurd comes
+done_told output files (Ok made) before after end no_out no_talk comes (inl written) = inl written.answer
+done_told output files (Ok made) before after end no_out no_talk comes (inr (inl broken)) = absurd (no_out broken.cause)
+done_told output files (Ok made) before after end no_out no_talk comes (inr (inr hushed)) = absurd (no_talk hushed.cause)
 
-done_said : (output : Output) (files : ℕ) (before after : Outside) (end : RunEnd) → ¬ Rose before.shelf.faults after.shelf.faults → ¬ Rose before.out.faults after.out.faults
+done_said : (output : Output) (files : ℕ) (before after : Outside) (end : RunEnd) → ¬ Rose before.shelf.faults after.shelf.faults → ¬ Rose before.out.faults after.out.faults → ¬ Rose before.talk.faults after.talk.faults
     → IsInterrupted files before after end.answer ⊎ Says (Gives output) files before after end → IsDone end.answer
-done_said output files before after end no_fault no_out (inl (inl is)) = inr is
-done_said output files before after end no_fault no_out (inl (inr lost)) = absurd (no_fault lost.cause)
-done_said output files before after end no_fault no_out (inr says) = done_told output files says.found before after end no_out says.comes says.tells
+done_said output files before after end no_fault no_out no_talk (inl (inl is)) = inr is
+done_said output files before after end no_fault no_out no_talk (inl (inr lost)) = absurd (no_fault lost.cause)
+done_said output files before after end no_fault no_out no_talk (inr says) = done_told output files says.found before after end no_out no_talk says.comes says.tells
 
 pub complete_run : (D : Document) (before after : Outside) (end : RunEnd) → Exact D before after end → Complete D before after end.answer
-complete_run D before after end exact = λ reads output some each is no_fault no_out.
-    done_said output (length reads) before after end no_fault no_out (exact reads (Gives output) some each is tt)
+complete_run D before after end exact = λ reads output some each is no_fault no_out no_talk.
+    done_said output (length reads) before after end no_fault no_out no_talk (exact reads (Gives output) some each is tt)

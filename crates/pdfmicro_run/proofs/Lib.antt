@@ -1,8 +1,4 @@
 pub mod ExactRuns
-pub mod Findings
-pub mod OneOutcome
 pub mod PiecesLaws
-pub mod SameJobs
-pub mod Settings
-pub mod Steps
+pub mod TextsLaws
 pub mod WordsTold

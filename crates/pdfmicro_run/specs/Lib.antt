@@ -1,9 +1,1 @@
-pub mod Document
-pub mod Finding
-pub mod Making
-pub mod Outcome
 pub mod Ran
-pub mod Setting
-pub mod Status
-pub mod Steps
-pub mod Words

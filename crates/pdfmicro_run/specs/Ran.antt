@@ -1,28 +1,33 @@
 -- What a run does: what it finds on the shelf, and what it tells of it.
 --     Outside                      the shelf, the output and talk at one time
 --     Writes, WritesPart           all bytes in pieces, or a first part of them
+--     Talks, TalksPart             all texts, each in one write, or a first part of them
+--     IsMessage, SaysAnswer        the one write of a message, whose failure changes nothing
 --     IsWriting                    the answers before which something may have been written
 --     Tells found before after     what is written of what was found, and how the run ends
 --     Ran D before after end       both
 --     Exact D before after end     where the files are told, they determine the end
 --     Complete                     an output is written where nothing outside fails
 --     Stays                        the files stay, and no count falls
-use Rattle.std.specs.Prelude.{◌≡◌, refl, ℕ, ◌+◌, ◌-◌, ◌/◌, ◌≤◌, List, [], length, ⊤, ◌⊎◌}
-use Rattle.std.specs.Prelude.{IsSome, Result, Ok, Err}
+use Rattle.std.specs.Prelude.{◌≡◌, refl, ℕ, ◌+◌, ◌-◌, ◌/◌, ◌<◌, ◌≤◌, List, [], length, ⊤, ◌⊎◌}
+use Rattle.std.specs.Prelude.{Option, Some, None, IsSome, unwrap_or, Result, Ok, Err}
+use Rattle.std.specs.List.{concat}
 use Rattle.std.specs.Io.KnownBytes.{Appends}
 use Rattle.outside_io.specs.Counts.{Rose, RisesBy}
 use Rattle.outside_io.specs.States.{ShelfState, SinkState}
 use Rattle.outside_io.specs.Writing.{AppendsPrefix}
-use Rattle.pdfmicro_run.specs.declared.answer.Answer.{Answer}
-use Rattle.pdfmicro_run.specs.declared.answer.Answer.TheVariants.{Done, ReadFault, OutFault}
-use Rattle.pdfmicro_run.specs.declared.answer.Answer.TheVariants.{NoMemory}
-use Rattle.pdfmicro_run.specs.declared.answer.RunEnd.{RunEnd}
-use Rattle.pdfmicro_run.specs.declared.files.TheConstants.{MOST_FILE_BYTES}
+use Rattle.micro_texts.specs.Messages.{fixed_of, message_of}
+use Rattle.micro_texts.specs.declared.answer.Answer.{Answer}
+use Rattle.micro_texts.specs.declared.answer.Answer.TheVariants.{Done, ReadFault, OutFault}
+use Rattle.micro_texts.specs.declared.answer.Answer.TheVariants.{TalkFault, NoMemory}
+use Rattle.micro_document.specs.declared.files.TheConstants.{MOST_FILE_BYTES}
+use Rattle.micro_document.specs.declared.made.Made.{Made}
+use Rattle.micro_document.specs.declared.stop.Stop.{Stop}
+use Rattle.micro_document.specs.Finding.{Files, IsMissing, IsTooBig, AreReads, Comes, Finds}
+use Rattle.micro_document.specs.Outcome.{Output, Outcome, Document}
+use Rattle.micro_document.specs.Outcome.Outcome.{Wants, Gives}
+use Rattle.pdfmicro_run.specs.declared.ending.RunEnd.{RunEnd}
 use Rattle.pdfmicro_run.specs.declared.pieces.TheConstants.{PIECE}
-use Rattle.pdfmicro_run.specs.declared.made.Made.{Made}
-use Rattle.pdfmicro_run.specs.Finding.{Files, IsMissing, IsTooBig, AreReads, Comes, Finds}
-use Rattle.pdfmicro_run.specs.Outcome.{Output, Outcome, Document}
-use Rattle.pdfmicro_run.specs.Outcome.Outcome.{Wants, Gives}
 
 pub record Outside : Type 0 where
   pub shelf : ShelfState
@@ -54,43 +59,81 @@ WritesPart bytes old new =
     AppendsPrefix old.written new.written bytes
     × ((calls : ℕ) × (calls ≤ pieces (length bytes)) × RisesBy calls old.calls new.calls)
 
--- only these two answers come after a write
-abbrev pub IsWriting : Answer → Type 0
-IsWriting answer = (answer ≡ Done) ⊎ (answer ≡ OutFault)
+-- all of the texts were written, each in one call
+abbrev pub Talks : List (List ℕ) → SinkState → SinkState → Type 0
+Talks texts old new =
+    Appends old.written new.written (concat texts) × RisesBy (length texts) old.calls new.calls
 
--- nothing was written
-pub record IsQuiet (before after : Outside) : Type 0 where
-  pub out : after.out ≡ before.out
-  pub talk : after.talk ≡ before.talk
+-- a first part of the texts was written
+abbrev pub TalksPart : List (List ℕ) → SinkState → SinkState → Type 0
+TalksPart texts old new =
+    AppendsPrefix old.written new.written (concat texts)
+    × ((calls : ℕ) × (calls ≤ length texts) × RisesBy calls old.calls new.calls)
+
+-- a line was written, or a first part of it where a fault was counted
+abbrev pub IsLineTold : List ℕ → SinkState → SinkState → Type 0
+IsLineTold line old new =
+    Appends old.written new.written line
+    ⊎ (Rose old.faults new.faults × AppendsPrefix old.written new.written line)
+
+-- the message of an answer about the file of a name, in one call; nothing where it has none
+abbrev pub IsMessage : Option (List ℕ) → SinkState → SinkState → Type 0
+IsMessage None old new = new ≡ old
+IsMessage (Some line) old new = IsLineTold line old new × RisesBy 1 old.calls new.calls
+
+-- An answer about the file of a name is told by its message; or memory ran out while that was made,
+-- unless the line is fixed, and is told instead.
+abbrev pub SaysAnswer : Answer → List ℕ → SinkState → SinkState → Answer → Type 0
+SaysAnswer answer name old new told =
+    ((told ≡ answer) × IsMessage (message_of answer name) old new)
+    ⊎ ((told ≡ NoMemory) × (fixed_of answer ≡ None) × IsMessage (message_of NoMemory []) old new)
+
+-- only these answers come after a write to the output
+abbrev pub IsWriting : Answer → Type 0
+IsWriting answer = (answer ≡ Done) ⊎ ((answer ≡ OutFault) ⊎ (answer ≡ TalkFault))
 
 -- the command was carried out
 pub record IsWritten (made : Made) (before after : Outside) (end : RunEnd) : Type 0 where
   pub answer : end.answer ≡ Done
   pub owners : end.owners ≡ made.owners
   pub out : Writes made.out before.out after.out
-  pub talk : after.talk ≡ before.talk
+  pub talk : Talks made.talk before.talk after.talk
 
--- the output failed
+-- the output failed, which needs something to write, and the message tells it
 pub record IsBrokenOff (made : Made) (before after : Outside) (end : RunEnd) : Type 0 where
   pub answer : end.answer ≡ OutFault
   pub owners : end.owners ≡ []
+  pub some : 0 < length made.out
   pub cause : Rose before.out.faults after.out.faults
   pub out : WritesPart made.out before.out after.out
-  pub talk : after.talk ≡ before.talk
+  pub talk : IsMessage (message_of OutFault []) before.talk after.talk
 
--- a fault is the answer, and nothing is written
-pub record IsToldFault (fault : Answer) (before after : Outside) (end : RunEnd) : Type 0 where
-  pub answer : end.answer ≡ fault
+-- talk failed, which needs a text, behind the whole output
+pub record IsHushed (made : Made) (before after : Outside) (end : RunEnd) : Type 0 where
+  pub answer : end.answer ≡ TalkFault
   pub owners : end.owners ≡ []
-  pub quiet : IsQuiet before after
+  pub some : 0 < length made.talk
+  pub cause : Rose before.talk.faults after.talk.faults
+  pub out : Writes made.out before.out after.out
+  pub talk : TalksPart made.talk before.talk after.talk
 
-abbrev pub Tells : Result Made Answer → Outside → Outside → RunEnd → Type 0
-Tells (Ok made) before after end =
-    IsWritten made before after end ⊎ IsBrokenOff made before after end
-Tells (Err fault) before after end = IsToldFault fault before after end
+abbrev pub TellsMade : Made → Outside → Outside → RunEnd → Type 0
+TellsMade made before after end =
+    IsWritten made before after end
+    ⊎ (IsBrokenOff made before after end ⊎ IsHushed made before after end)
+
+-- the stop's answer is told, and nothing is written to the output
+pub record IsToldStop (stop : Stop) (before after : Outside) (end : RunEnd) : Type 0 where
+  pub owners : end.owners ≡ []
+  pub out : after.out ≡ before.out
+  pub says : SaysAnswer stop.answer (unwrap_or stop.name []) before.talk after.talk end.answer
+
+abbrev pub Tells : Result Made Stop → Outside → Outside → RunEnd → Type 0
+Tells (Ok made) before after end = TellsMade made before after end
+Tells (Err stop) before after end = IsToldStop stop before after end
 
 pub record Ran (D : Document) (before after : Outside) (end : RunEnd) : Type 0 where
-  pub found : Result Made Answer
+  pub found : Result Made Stop
   pub finds : Finds 0 D before.shelf after.shelf found
   pub tells : Tells found before after end
 
@@ -102,7 +145,7 @@ IsLast files _ = ⊤
 -- what the answer says of an outcome, whatever else was found
 pub record Says (outcome : Outcome) (file : ℕ) (before after : Outside)
     (end : RunEnd) : Type 0 where
-  pub found : Result Made Answer
+  pub found : Result Made Stop
   pub comes : Comes outcome file before.shelf after.shelf found
   pub tells : Tells found before after end
 
@@ -138,6 +181,7 @@ Complete D before after answer =
     → D reads (Gives output)
     → ¬ Rose before.shelf.faults after.shelf.faults
     → ¬ Rose before.out.faults after.out.faults
+    → ¬ Rose before.talk.faults after.talk.faults
     → IsDone answer
 
 pub record Stays (before after : Outside) : Type 0 where

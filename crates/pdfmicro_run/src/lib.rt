@@ -1,22 +1,17 @@
 //! The top call of the program.
 //!
-//! A document is what the words of a command, the bytes of its job and those of its fonts come to:
-//! the next file that is wanted, the first fault, or the output. [`run_micro`] reads what the
-//! document wants in turn and then writes what it gives, or ends with what it refuses; its contract
-//! says no more than this of any command.
+//! [`run_micro`] finds the document of the words of a command (`micro_document`) and then writes
+//! what it gives, or ends with what it refuses and says the message of that; its contract says no
+//! more than this of any command.
 #![tactic(auto)]
 
-pub mod answer;
-pub mod files;
-mod fonts;
-pub mod laws;
-pub mod made;
+mod ending;
+mod lines;
 pub mod pieces;
-pub mod run;
-mod setting;
+mod run;
 mod telling;
-mod words;
 
-pub use answer::{Answer, RunEnd};
-pub use laws::one_outcome;
+pub use ending::RunEnd;
+pub use micro_document::one_outcome;
+pub use micro_texts::Answer;
 pub use run::run_micro;

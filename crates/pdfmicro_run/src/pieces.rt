@@ -1,5 +1,5 @@
 //! Writes bytes in pieces.
-ghost use Rattle.std.specs.Prelude.{◌≡◌, ◌≤◌, OnOk, OnErr, take, drop, min, length};
+ghost use Rattle.std.specs.Prelude.{◌≡◌, ◌≤◌, ◌<◌, OnOk, OnErr, take, drop, min, length};
 ghost use Rattle.outside_io.specs.Counts.{Rose};
 ghost use Rattle.pdfmicro_run.specs.Ran.{Writes, WritesPart};
 
@@ -14,6 +14,7 @@ pub fn write_pieces<O: Sink>(out: &mut O, bytes: &[u8]) -> Result<(), Failed>
     ensures faults { (O.state out.old).faults ≤ (O.state out.new).faults }
     ensures ok { OnOk result (Writes bytes.now (O.state out.old) (O.state out.new)) }
     ensures failed { OnErr result (Rose (O.state out.old).faults (O.state out.new).faults) }
+    ensures some { OnErr result (0 < length bytes.now) }
     ensures part { OnErr result (WritesPart bytes.now (O.state out.old) (O.state out.new)) }
 {
     let mut rest = bytes;

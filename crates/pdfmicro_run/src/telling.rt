@@ -1,61 +1,87 @@
 //! Writes what was found of a document, and ends the run.
-ghost use Rattle.std.specs.Prelude.{◌≡◌, ◌≤◌, ◌⊎◌};
+ghost use Rattle.std.specs.Prelude.{◌≡◌, ◌≤◌, ◌⊎◌, [], unwrap_or};
 ghost use Rattle.outside_io.specs.States.{ShelfState, SinkState};
-ghost use Rattle.pdfmicro_run.specs.Ran.{outside, IsWriting, IsWritten, IsBrokenOff, Tells};
-ghost use Rattle.pdfmicro_run.specs.Status.{status_of};
+ghost use Rattle.micro_texts.specs.Status.{status_of};
+ghost use Rattle.pdfmicro_run.specs.Ran.{outside, IsWriting, SaysAnswer, Tells, TellsMade};
 
-use crate::answer::{Answer, RunEnd};
-use crate::made::Made;
+use crate::ending::RunEnd;
+use crate::lines::{say, write_texts};
 use crate::pieces::write_pieces;
-use instance_core::Owner;
 use items::Items;
+use micro_document::{Made, Stop};
+use micro_texts::Answer;
 use outside_io::Sink;
 use std::alloc::Global;
 
-/// The end of a run with an answer.
-fn ended(answer: Answer, owners: Items<Owner>) -> RunEnd
-    ensures answer { result.answer ≡ answer }
-    ensures owners { result.owners ≡ owners }
-    ensures status { result.status ≡ status_of answer }
+/// Ends the run with an answer about the file of a name, which its message tells.
+fn told<T: Sink>(alloc: Global, answer: Answer, name: &str, talk: &mut T) -> RunEnd
+    ensures says { SaysAnswer answer name.now
+        (T.state talk.old) (T.state talk.new) result.answer }
+    ensures owners { result.owners ≡ [] }
+    ensures status { result.status ≡ status_of result.answer }
+    ensures calls { (T.state talk.old).calls ≤ (T.state talk.new).calls }
+    ensures faults { (T.state talk.old).faults ≤ (T.state talk.new).faults }
 {
-    RunEnd {
-        status: answer.status(),
-        answer,
-        owners,
-    }
+    let said = say(alloc, answer, name, talk);
+    RunEnd::with(said, Items::new(alloc))
 }
 
-/// Writes what was made.
-fn written<O: Sink>(alloc: Global, made: Made, out: &mut O) -> RunEnd
-    ensures told { (shelf later : ShelfState) (talk : SinkState) →
-        IsWritten made (outside shelf (O.state out.old) talk)
-        (outside later (O.state out.new) talk) result
-        ⊎ IsBrokenOff made (outside shelf (O.state out.old) talk)
-        (outside later (O.state out.new) talk) result }
+/// Writes what was made: the output, and then the texts.
+fn written<O: Sink, T: Sink>(alloc: Global, made: Made, out: &mut O, talk: &mut T) -> RunEnd
+    ensures tells { (shelf later : ShelfState) → TellsMade made
+        (outside shelf (O.state out.old) (T.state talk.old))
+        (outside later (O.state out.new) (T.state talk.new)) result }
     ensures writing { IsWriting result.answer }
-    ensures calls { (O.state out.old).calls ≤ (O.state out.new).calls }
-    ensures faults { (O.state out.old).faults ≤ (O.state out.new).faults }
     ensures status { result.status ≡ status_of result.answer }
+    ensures out_calls { (O.state out.old).calls ≤ (O.state out.new).calls }
+    ensures out_faults { (O.state out.old).faults ≤ (O.state out.new).faults }
+    ensures calls { (T.state talk.old).calls ≤ (T.state talk.new).calls }
+    ensures faults { (T.state talk.old).faults ≤ (T.state talk.new).faults }
 {
-    let Made { out: bytes, owners } = made;
+    let Made {
+        out: bytes,
+        talk: texts,
+        owners,
+    } = made;
     match write_pieces(out, bytes.as_slice()) {
-        Ok(()) => ended(Answer::Done, owners),
-        Err(_) => ended(Answer::OutFault, Items::new(alloc)),
+        Ok(()) => {}
+        Err(_) => return told(alloc, Answer::OutFault, "", talk),
+    }
+    match write_texts(talk, texts.as_slice()) {
+        Ok(()) => RunEnd::with(Answer::Done, owners),
+        Err(_) => RunEnd::with(Answer::TalkFault, Items::new(alloc)),
     }
 }
 
-/// Writes what was made, or answers with the fault, which is told by the status alone.
-pub(crate) fn tell<O: Sink>(alloc: Global, found: Result<Made, Answer>, out: &mut O) -> RunEnd
-    ensures tells { (shelf later : ShelfState) (talk : SinkState) →
-        Tells found (outside shelf (O.state out.old) talk)
-        (outside later (O.state out.new) talk) result }
+/// The name of the file that a stop is about, empty where it is about none.
+fn name_of(stop: &Stop) -> &str
+    ensures { result.now ≡ unwrap_or stop.now.name [] }
+{
+    match &stop.name {
+        Some(name) => name.as_str(),
+        None => "",
+    }
+}
+
+/// Writes what was made, or answers with the stop's answer and says its message.
+pub(crate) fn tell<O: Sink, T: Sink>(
+    alloc: Global,
+    found: Result<Made, Stop>,
+    out: &mut O,
+    talk: &mut T,
+) -> RunEnd
+    ensures tells { (shelf later : ShelfState) → Tells found
+        (outside shelf (O.state out.old) (T.state talk.old))
+        (outside later (O.state out.new) (T.state talk.new)) result }
     ensures unchanged { IsWriting result.answer ⊎ (out.new ≡ out.old) }
-    ensures calls { (O.state out.old).calls ≤ (O.state out.new).calls }
-    ensures faults { (O.state out.old).faults ≤ (O.state out.new).faults }
     ensures status { result.status ≡ status_of result.answer }
+    ensures out_calls { (O.state out.old).calls ≤ (O.state out.new).calls }
+    ensures out_faults { (O.state out.old).faults ≤ (O.state out.new).faults }
+    ensures calls { (T.state talk.old).calls ≤ (T.state talk.new).calls }
+    ensures faults { (T.state talk.old).faults ≤ (T.state talk.new).faults }
 {
     match found {
-        Ok(made) => written(alloc, made, out),
-        Err(answer) => ended(answer, Items::new(alloc)),
+        Ok(made) => written(alloc, made, out, talk),
+        Err(stop) => told(alloc, stop.answer, name_of(&stop), talk),
     }
 }

@@ -1,0 +1,9 @@
+pub mod Breaking
+pub mod Document
+pub mod Finding
+pub mod Making
+pub mod Outcome
+pub mod Setting
+pub mod Steps
+pub mod Stopping
+pub mod Words

@@ -1,5 +1,0 @@
-use Rattle.pdfmicro_run.proofs.OneOutcome.{one_outcome}
-use Rattle.pdfmicro_run.proofs.laws.one_outcome.Goals as goal
-
-pub returns : goal.returns
-returns c = one_outcome
