@@ -1,21 +1,11 @@
 //! What each command writes and tells.
 use crate::runs::{Failing, Run, SOUND, run_words};
+use crate::samples::{EXPANDED, FOUR_WORDS, HYPHENATED};
 use pdfmicro_run::Answer;
 use std::alloc::Global;
 use std::test::Fail;
 use std::thread::Threads;
 use test_fonts::tiny10;
-
-/// A paragraph of four words, whose second line is expanded.
-const EXPANDED: &[u8] = b"\\font\\f=tiny10 \\f\n\\hsize=24pt \\pdffontexpand\\f 20 20 1 \
-    \\pdfadjustspacing=2\n\\noindent aa bb cc dd\n";
-
-/// The same words without expansion, which the second pass breaks.
-const FOUR_WORDS: &[u8] = b"\\font\\f=tiny10 \\f\n\\hsize=24pt\n\\noindent aa bb cc dd\n";
-
-/// A paragraph that the second pass breaks at a hyphen.
-const HYPHENATED: &[u8] = b"\\font\\f=tiny10 \\f\n\\hsize=27.5pt \\righthyphenmin=2 \
-    \\hyphenation{bb-bb}\n\\noindent aa bbbb\n";
 
 /// Runs the words behind the program's name, over the job in the font `tiny10`.
 fn run<R: Threads + Sync>(

@@ -1,5 +1,6 @@
 //! Jobs and their answers.
 use crate::runs::set;
+use crate::samples::{EXPANDED, THREE_LETTERS};
 use hlist_build::ParFault;
 use instance_core::{Cell, Owner};
 use items::Items;
@@ -13,10 +14,7 @@ use std::thread::Threads;
 use test_fonts::{ligature10, tiny10};
 use tfm_read::TfmFaultKind;
 
-/// Three letters on a line of 100pt.
-const THREE_LETTERS: &[u8] = b"\\font\\f=tiny10 \\f\n\\hsize=100pt\n\\noindent abc\n";
-
-/// The file of that job, 172 bytes.
+/// The file of three letters, 172 bytes.
 const FILE: [u8; 172] = [
     247, 2, 1, 131, 146, 192, 28, 59, 0, 0, 0, 0, 3, 232, 16, 32, 112, 100, 102, 109, 105, 99, 114,
     111, 32, 111, 117, 116, 112, 117, 116, 139, 0, 0, 0, 1, 0, 0, 0, 0, 0, 0, 0, 0, 0, 0, 0, 0, 0,
@@ -327,11 +325,9 @@ fn owner(step: i32) -> Owner {
 
 #[test]
 fn expanded_fonts_are_owned_by_the_first_worker(rt: HostRuntime) -> Result<(), Fail> {
-    let job = b"\\font\\f=tiny10 \\f\n\\hsize=24pt \\pdffontexpand\\f 20 20 1 \
-        \\pdfadjustspacing=2\n\\noindent aa bb cc dd\n";
-    let cases: &[Case] = &[(job, Answer::Done, 240)];
+    let cases: &[Case] = &[(EXPANDED, Answer::Done, 240)];
     assert_eq!(rt; first_other(&rt, rt.alloc(), cases)?, None);
-    let found = owners(&rt, rt.alloc(), job)?;
+    let found = owners(&rt, rt.alloc(), EXPANDED)?;
     assert_eq!(rt; found.as_slice(), [owner(20)].as_slice());
     let found = owners(
         &rt,

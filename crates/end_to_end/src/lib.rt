@@ -1,6 +1,6 @@
 //! Whole runs, over files and outputs in memory: jobs with their answers, each command with what it
-//! tells, and an outside that fails; the fonts that they are set in, read, refused and run; and
-//! generated documents.
+//! tells, an outside that fails, and hostile jobs; the fonts that they are set in, read, refused
+//! and run; and generated documents.
 //!
 //! The crate has tests alone. What they expect was worked out by hand from the formats.
 #![tactic(auto)]
@@ -12,6 +12,8 @@ mod commands;
 #[cfg(test)]
 mod documents;
 #[cfg(test)]
+mod hostile;
+#[cfg(test)]
 mod jobs;
 #[cfg(test)]
 mod messages;
@@ -19,6 +21,8 @@ mod messages;
 mod outside;
 #[cfg(test)]
 mod runs;
+#[cfg(test)]
+mod samples;
 #[cfg(test)]
 mod tfm_faults;
 #[cfg(test)]

@@ -1,13 +1,11 @@
 //! The message of each answer.
 use crate::runs::{Failing, Run, SOUND, run_words};
+use crate::samples::THREE_LETTERS;
 use pdfmicro_run::Answer;
 use std::alloc::Global;
 use std::test::Fail;
 use std::thread::Threads;
 use test_fonts::tiny10;
-
-/// Three letters on a line of 100pt.
-const THREE_LETTERS: &[u8] = b"\\font\\f=tiny10 \\f\n\\hsize=100pt\n\\noindent abc\n";
 
 /// Sets the job in the font `tiny10`.
 fn set<R: Threads + Sync>(

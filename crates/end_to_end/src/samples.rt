@@ -1,0 +1,15 @@
+//! Jobs that several tests run.
+
+/// Three letters on a line of 100pt.
+pub const THREE_LETTERS: &[u8] = b"\\font\\f=tiny10 \\f\n\\hsize=100pt\n\\noindent abc\n";
+
+/// A paragraph of four words, whose first line is expanded.
+pub const EXPANDED: &[u8] = b"\\font\\f=tiny10 \\f\n\\hsize=24pt \\pdffontexpand\\f 20 20 1 \
+    \\pdfadjustspacing=2\n\\noindent aa bb cc dd\n";
+
+/// The same words without expansion, which the second pass breaks.
+pub const FOUR_WORDS: &[u8] = b"\\font\\f=tiny10 \\f\n\\hsize=24pt\n\\noindent aa bb cc dd\n";
+
+/// A paragraph that the second pass breaks at a hyphen.
+pub const HYPHENATED: &[u8] = b"\\font\\f=tiny10 \\f\n\\hsize=27.5pt \\righthyphenmin=2 \
+    \\hyphenation{bb-bb}\n\\noindent aa bbbb\n";
