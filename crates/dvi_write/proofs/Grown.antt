@@ -1,5 +1,5 @@
 -- Bytes that are put one after another.
-use Rattle.std.proofs.Common.{◌≡◌, ℕ, ◌+◌, refl, ap, ◌∙◌, arith, Bool, true, false, cond, List, [], ◌++◌, append_assoc, length, length-append}
+use Rattle.std.proofs.Common.{◌≡◌, ℕ, ◌+◌, refl, ap, sym, ◌∙◌, arith, Bool, true, false, cond, List, [], ◌++◌, append_assoc, length, length-append}
 use Rattle.std.proofs.lemmas.List.{append-nil}
 use Rattle.std.specs.Prelude.{Result, Ok, Err, OnOk}
 use Rattle.micro_num.specs.declared.memory.NoMemory.{NoMemory}
@@ -49,3 +49,18 @@ pub on_ok_same : {A : Type 0} (result : Result A NoMemory) (out last : Output) (
     → OnOk result (last ≡ grown out all)
 on_ok_same (Ok done) out last xs all put same = put ∙ ap (grown out) same
 on_ok_same (Err refused) out last xs all put same = tt
+
+-- what is put where it is put is the whole where that is
+pub on_ok_whole : {A : Type 0} (result : Result A NoMemory) (last mid whole : Output) → OnOk result (last ≡ mid) → mid ≡ whole → OnOk result (last ≡ whole)
+on_ok_whole (Ok done) last mid whole put same = put ∙ same
+on_ok_whole (Err refused) last mid whole put same = tt
+
+-- a glyph behind what is gathered: room is made, its move is gathered, its font is put, and its code is gathered
+pub gathered_glyph : (out roomy last : Output) (first left moved kept whole move font code : List ℕ) → grown roomy left ≡ grown out first
+    → moved ≡ left ++ move → grown last kept ≡ grown (grown roomy moved) font → whole ≡ kept ++ code
+    → grown last whole ≡ grown (grown out first) (move ++ font ++ code)
+gathered_glyph out roomy last first left moved kept whole move font code made at_place selected set =
+    ap (grown last) set ∙ sym (grown_twice last kept code)
+    ∙ ap (λ o. grown o code) (selected ∙ ap (λ o. grown o font) (ap (grown roomy) at_place ∙ sym (grown_twice roomy left move) ∙ ap (λ o. grown o move) made))
+    ∙ ap (λ o. grown o code) (grown_twice (grown out first) move font)
+    ∙ grown_twice (grown out first) (move ++ font) code

@@ -1,4 +1,6 @@
 pub mod Grown
+pub mod Counted
+pub mod Plain
 pub mod NumbersAt
 pub mod WritingSteps
 pub mod Spelled

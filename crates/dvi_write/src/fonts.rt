@@ -1,5 +1,5 @@
 //! The fonts of a DVI file: their definitions and selections.
-ghost use Rattle.std.specs.Prelude.{◌≡◌, ◌<◌, ◌++◌, ◌∷◌, ◌≤◌, length, OnOk, true, false};
+ghost use Rattle.std.specs.Prelude.{◌≡◌, ◌<◌, ◌++◌, ◌∷◌, ◌≤◌, length, take, IfOk, OnOk, true, false};
 ghost use Rattle.instance_core.specs.Cells.{has_cell};
 ghost use Rattle.dvi_write.specs.Commands.{spell};
 ghost use Rattle.dvi_write.specs.Document.{define, definition_head, row_sizes, name_bytes, is_selected, number_at, step_suffix};
@@ -26,7 +26,7 @@ pub(crate) struct Fonts {
 }
 
 impl Fonts {
-    fn is_selected(&self, cell: Cell) -> bool
+    pub fn is_selected(&self, cell: Cell) -> bool
         ensures { result ≡ is_selected self.now.selected cell }
     {
         match self.selected {
@@ -137,6 +137,36 @@ pub(crate) fn put_font(
     } else {
         put_other_font(out, rows, numbering, fonts, cell)
     }
+}
+
+/// Puts the font of a glyph behind the bytes gathered, where it isn't the one that is selected, and
+/// gives how many bytes are left.
+#[inline(always)]
+#[tactic(auto, using(crate::proofs::Grown::grown_twice, crate::proofs::Grown::grown_nothing), unfolding(crate::specs::Writing::font_bytes, crate::specs::Writing::font_after))]
+pub(crate) fn put_font_behind(
+    out: &mut Output,
+    rows: &[FontRow],
+    numbering: &Numbering,
+    fonts: &mut Fonts,
+    gathered: &[u8; 64],
+    count: usize,
+    cell: Cell,
+) -> Result<usize, NoMemory>
+    requires definable { IsDefinable rows.now cell }
+    requires numbered { has_cell numbering.now cell ≡ true }
+    requires within { count ≤ 64 }
+    ensures bytes { IfOk result (λ left. grown out.new (take left gathered.now)
+        ≡ grown (grown out.old (take count gathered.now))
+        (font_bytes rows.now numbering.now fonts.old cell)) }
+    ensures after { OnOk result (fonts.new ≡ font_after numbering.now fonts.old cell) }
+    ensures left { IfOk result (λ left. left ≤ count) }
+{
+    if fonts.is_selected(cell) {
+        return Ok(count);
+    }
+    out.put(&gathered[..count])?;
+    put_other_font(out, rows, numbering, fonts, cell)?;
+    Ok(0)
 }
 
 /// Puts a font that isn't selected. It is rare, so it stands apart from the loop over glyphs.

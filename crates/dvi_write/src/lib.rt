@@ -11,6 +11,8 @@ mod commands;
 mod fault;
 mod file;
 mod fonts;
+mod gathering;
+mod glyphs;
 pub mod opcodes;
 mod output;
 mod page;

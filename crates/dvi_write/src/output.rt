@@ -21,7 +21,7 @@ impl Model for Output {
 }
 
 impl Output {
-    ghost use Rattle.std.specs.Prelude.{◌≡◌, [], true, false, OnOk, IfOk};
+    ghost use Rattle.std.specs.Prelude.{◌≡◌, ◌+◌, [], true, false, OnOk, IfOk};
     ghost use Rattle.dvi_write.specs.Output.{grown};
 
     /// One that counts alone.
@@ -60,6 +60,27 @@ impl Output {
         }
         self.length = length;
         Ok(())
+    }
+
+    /// Counts more bytes, where none are kept. A count that passes 2^64 - 1 is want of memory.
+    pub fn count(&mut self, more: u64) -> Result<(), NoMemory>
+        requires { self.old.kept ≡ false }
+        ensures kept { OnOk result (self.new.kept ≡ false) }
+        ensures length { OnOk result (self.new.length ≡ self.old.length + more) }
+        ensures bytes { OnOk result (self.new.bytes ≡ self.old.bytes) }
+    {
+        let Some(length) = self.length.checked_add(more) else {
+            return Err(NoMemory);
+        };
+        self.length = length;
+        Ok(())
+    }
+
+    /// Whether the bytes are kept.
+    pub fn keeps(&self) -> bool
+        ensures { result ≡ self.now.kept }
+    {
+        self.kept
     }
 
     /// How many bytes were put.

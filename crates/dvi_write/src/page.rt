@@ -1,83 +1,21 @@
 //! The pages of a DVI file.
-ghost use Rattle.std.specs.Prelude.{◌≡◌, ◌≤◌, length, map, pos, ◌+ℤ◌, ◌-ℤ◌, None, OnOk, IfOk, All};
-ghost use Rattle.instance_core.specs.declared.page.Placed.{Placed};
+ghost use Rattle.std.specs.Prelude.{◌≡◌, ◌≤◌, length, pos, None, OnOk, IfOk, All};
 ghost use Rattle.renumber.specs.Uses.{cells_of_line, cells_of_lines};
 ghost use Rattle.dvi_write.specs.Output.{grown};
-ghost use Rattle.dvi_write.specs.Writable.{IsPlace, IsGlyphPuttable, IsLinePuttable, IsPuttable};
-ghost use Rattle.dvi_write.specs.Writing.{glyph_bytes, glyphs_bytes, line_bytes, lines_bytes};
+ghost use Rattle.dvi_write.specs.Writable.{IsPlace, IsLinePuttable, IsPuttable};
+ghost use Rattle.dvi_write.specs.Writing.{line_bytes, lines_bytes};
 ghost use Rattle.dvi_write.specs.Writing.{page_bytes, page_head, pages_bytes, last_page};
-ghost use Rattle.dvi_write.specs.Writing.{font_after, fonts_after, defined_after};
+ghost use Rattle.dvi_write.specs.Writing.{fonts_after, defined_after};
 
-use crate::commands::{put_code, put_down, put_number, put_pointer, put_right};
-use crate::fonts::{Fonts, put_font};
+use crate::commands::{put_down, put_number, put_pointer};
+use crate::fonts::Fonts;
+use crate::glyphs::{distance, put_glyphs};
 use crate::opcodes::{BOP, EOP, POP, PUSH};
 use crate::output::Output;
 use crate::row::FontRow;
-use instance_core::{Page, PageLine, Placed};
+use instance_core::{Page, PageLine};
 use micro_num::{NoMemory, Sp};
 use renumber::Numbering;
-
-/// How far it is from one place on a page to another.
-fn distance(from: Sp, to: Sp) -> Sp
-    requires from { IsPlace from }
-    requires to { IsPlace to }
-    ensures { result ≡ to -ℤ from }
-{
-    to - from
-}
-
-/// The right edge of a glyph.
-fn right_edge(rows: &[FontRow], numbering: &Numbering, glyph: &Placed) -> Sp
-    requires { IsGlyphPuttable rows.now numbering.now glyph.now }
-    ensures edge { result ≡ glyph.now.x +ℤ glyph.now.advance }
-    ensures place { IsPlace result }
-{
-    glyph.x + glyph.advance
-}
-
-/// Puts a glyph, after the place that the glyphs before it on the line lead to.
-#[tactic(auto, using(crate::proofs::Grown::grown_twice), unfolding(crate::specs::Writing::glyph_bytes))]
-fn put_glyph(
-    out: &mut Output,
-    rows: &[FontRow],
-    numbering: &Numbering,
-    fonts: &mut Fonts,
-    h: Sp,
-    glyph: &Placed,
-) -> Result<(), NoMemory>
-    requires from { IsPlace h }
-    requires puttable { IsGlyphPuttable rows.now numbering.now glyph.now }
-    ensures bytes { OnOk result (out.new
-        ≡ grown out.old (glyph_bytes rows.now numbering.now fonts.old h glyph.now)) }
-    ensures after { OnOk result (fonts.new ≡ font_after numbering.now fonts.old glyph.now.cell) }
-{
-    put_right(out, distance(h, glyph.x))?;
-    put_font(out, rows, numbering, fonts, glyph.cell)?;
-    put_code(out, glyph.code)
-}
-
-/// Puts the glyphs of a line.
-#[tactic(auto, using(crate::proofs::Grown::grown_nothing))]
-fn put_glyphs(
-    out: &mut Output,
-    rows: &[FontRow],
-    numbering: &Numbering,
-    fonts: &mut Fonts,
-    glyphs: &[Placed],
-) -> Result<(), NoMemory>
-    requires { All (IsGlyphPuttable rows.now numbering.now) glyphs.now }
-    ensures bytes { OnOk result (out.new
-        ≡ grown out.old (glyphs_bytes rows.now numbering.now fonts.old (pos 0) glyphs.now)) }
-    ensures after { OnOk result (fonts.new
-        ≡ fonts_after numbering.now fonts.old (map (λ (g : Placed). g.cell) glyphs.now)) }
-{
-    let mut h = 0;
-    for glyph in glyphs {
-        put_glyph(out, rows, numbering, fonts, h, glyph)?;
-        h = right_edge(rows, numbering, glyph);
-    }
-    Ok(())
-}
 
 /// Puts a line on its baseline, after the one whose baseline is `v`.
 #[tactic(auto, using(crate::proofs::Grown::grown_twice), unfolding(crate::specs::Writing::line_bytes, crate::specs::Commands::spell))]

@@ -1,3 +1,4 @@
 pub mod InsertedCells
 pub mod UsedCells
 pub mod FewUses
+pub mod OneCell

@@ -1,11 +1,13 @@
 //! First uses, as glyphs come one after another.
 ghost use Rattle.std.specs.Prelude.{◌≡◌, [], OnOk, IfOk};
+ghost use Rattle.std.specs.List.{list_all};
 ghost use Rattle.indexmap.specs.IndexSet.{insert_key, insert_all};
+ghost use Rattle.instance_core.specs.declared.page.Placed.{Placed};
 ghost use Rattle.instance_core.specs.Cells.{same_cell};
 ghost use Rattle.renumber.specs.Uses.{cells_of_line, cells_of_lines, cells_of_pages};
 
 use indexmap::IndexSet;
-use instance_core::{Cell, Packed, Page, PageLine};
+use instance_core::{Cell, Packed, Page, PageLine, Placed};
 use micro_num::NoMemory;
 use std::alloc::Global;
 use std::marker::Model;
@@ -51,13 +53,30 @@ impl FirstUses {
         Ok(())
     }
 
-    fn put_line(&mut self, line: &Packed) -> Result<(), NoMemory>
+    fn put_each(&mut self, line: &Packed) -> Result<(), NoMemory>
         ensures { OnOk result (self.new ≡ insert_all same_cell self.old (cells_of_line line.now)) }
     {
         for glyph in line.glyphs.as_slice() {
             self.put(glyph.cell)?;
         }
         Ok(())
+    }
+
+    /// Puts the cells of a line. Most lines have one, which is put once.
+    #[tactic(auto, using(crate::proofs::OneCell::insert_one_cell))]
+    fn put_line(&mut self, line: &Packed) -> Result<(), NoMemory>
+        ensures { OnOk result (self.new ≡ insert_all same_cell self.old (cells_of_line line.now)) }
+    {
+        let glyphs = line.glyphs.as_slice();
+        if glyphs.is_empty() {
+            return Ok(());
+        }
+        let first = glyphs[0].cell;
+        if have_cell(glyphs, first) {
+            self.put(first)
+        } else {
+            self.put_each(line)
+        }
     }
 
     fn put_lines(&mut self, lines: &[PageLine]) -> Result<(), NoMemory>
@@ -69,6 +88,18 @@ impl FirstUses {
         }
         Ok(())
     }
+}
+
+/// Whether all of the glyphs have this cell.
+fn have_cell(glyphs: &[Placed], cell: Cell) -> bool
+    ensures { result ≡ list_all (λ (g : Placed). same_cell g.cell cell) glyphs.now }
+{
+    for glyph in glyphs {
+        if glyph.cell != cell {
+            return false;
+        }
+    }
+    true
 }
 
 /// The first uses of pages.

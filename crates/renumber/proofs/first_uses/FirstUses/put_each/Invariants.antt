@@ -2,7 +2,7 @@ use Rattle.std.proofs.Common.{◌≡◌, drop, map}
 use Rattle.indexmap.specs.IndexSet.{insert_all}
 use Rattle.instance_core.specs.declared.page.Placed.{Placed}
 use Rattle.instance_core.specs.Cells.{same_cell}
-use Rattle.renumber.proofs.first_uses.FirstUses.put_line.Given as goal
+use Rattle.renumber.proofs.first_uses.FirstUses.put_each.Given as goal
 
 abbrev pub invariant-loop-glyph : goal.invariant-loop-glyph
 invariant-loop-glyph l =
