@@ -24,7 +24,7 @@ pub struct Document {
 }
 
 /// The fonts of some declarations, all of which have the same file.
-fn fonts_of(alloc: Global, decls: &[FontDecl], file: &[u8]) -> anyhow::Result<Stock>
+pub fn fonts_of(alloc: Global, decls: &[FontDecl], file: &[u8]) -> anyhow::Result<Stock>
     requires few { length decls.now ≤ 32 }
     requires sizes { All (λ (decl : FontDecl). IsSize decl.size) decls.now }
     ensures { IfOk result (λ stock. length stock ≡ length decls.now) }

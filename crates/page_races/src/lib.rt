@@ -11,6 +11,6 @@ mod pages;
 mod races;
 mod worker;
 
-pub use document::{Document, read_document};
+pub use document::{Document, fonts_of, read_document};
 pub use pages::{plain_pages, same_page};
 pub use worker::right_pages_of_worker;

@@ -1,0 +1,17 @@
+//! Jobs that workers set in threads of their own, with pages, files and owners that were worked out
+//! by hand, and gates that hold workers until others have got on.
+//!
+//! The crate has tests alone, but for what they share: documents and gates.
+#![tactic(auto)]
+
+mod document;
+mod gates;
+#[cfg(test)]
+mod held;
+#[cfg(test)]
+mod rows;
+#[cfg(test)]
+mod wrong;
+
+pub use document::{Document, SetDocument, read_document, set_document};
+pub use gates::{BuildGate, DrawGate};
