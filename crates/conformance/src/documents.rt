@@ -1,4 +1,5 @@
-//! The cases of whole documents: what a run answers to a job, and what it writes.
+//! The cases of whole documents: what a run answers to a job, and what it writes, with any number
+//! of workers.
 ghost use Rattle.std.specs.Prelude.{◌≡◌, ◌≢◌, ◌<◌, ◌^◌, length, false, All, OnOk, IfOk};
 ghost use Rattle.outside_io.specs.Reading.{NamesDiffer};
 
@@ -16,6 +17,9 @@ use std::thread::Threads;
 
 /// The name of a job's file.
 const JOB: &str = "job";
+
+/// How many workers set a job besides one alone.
+const MORE_WORKERS: [&str; 4] = ["2", "5", "7", "64"];
 
 /// How many bytes a sink has room for: more than any case writes.
 const ROOM: u64 = 1 << 20;
@@ -103,16 +107,34 @@ fn declared(alloc: Global, bytes: &[u8]) -> Result<Items<FontDecl>, NoMemory>
     }
 }
 
-/// The words of the command line that sets the job.
-fn words(alloc: Global) -> Result<Vec<String>, AllocError> {
+/// The words of the command line that sets the job by so many workers.
+fn words(alloc: Global, workers: &str) -> Result<Vec<String>, AllocError> {
     let mut words = Vec::new(alloc);
-    for word in ["pdfmicro", "set", JOB] {
+    for word in ["pdfmicro", "set", JOB, "--workers", workers] {
         words.push(String::from_str(alloc, word)?)?;
     }
     Ok(words)
 }
 
-/// What a run answers to the job that the bytes spell which `left` gives in hexadecimal.
+/// What a run by so many workers answers.
+fn run_with<R: Threads + Sync>(
+    rt: &R,
+    alloc: Global,
+    shelf: &mut MemShelf,
+    workers: &str,
+) -> Result<Option<String>, AllocError> {
+    let mut out = MemSink::make(alloc, Items::new(alloc));
+    let mut talk = MemSink::make(alloc, Items::new(alloc));
+    if out.reserve(ROOM).is_err() || talk.reserve(ROOM).is_err() {
+        return Err(AllocError);
+    }
+    let words = words(alloc, workers)?;
+    let end = run_micro(rt, alloc, &words, shelf, &mut out, &mut talk, &NoGate);
+    run_text(alloc, &end, out.written())
+}
+
+/// What runs answer to the job that the bytes spell which `left` gives in hexadecimal. Where they
+/// don't all answer the same, that is told, which no case expects.
 pub fn answer<R: Files + Threads + Sync>(
     rt: &R,
     alloc: Global,
@@ -125,12 +147,11 @@ pub fn answer<R: Files + Threads + Sync>(
         return Err(AllocError);
     };
     let mut shelf = MemShelf::make(files, Items::new(alloc));
-    let mut out = MemSink::make(alloc, Items::new(alloc));
-    let mut talk = MemSink::make(alloc, Items::new(alloc));
-    if out.reserve(ROOM).is_err() || talk.reserve(ROOM).is_err() {
-        return Err(AllocError);
+    let first = run_with(rt, alloc, &mut shelf, "1")?;
+    for workers in MORE_WORKERS {
+        if run_with(rt, alloc, &mut shelf, workers)? != first {
+            return Ok(Some(format!(in alloc; "otherwise with {workers} workers")?));
+        }
     }
-    let words = words(alloc)?;
-    let end = run_micro(rt, alloc, &words, &mut shelf, &mut out, &mut talk, &NoGate);
-    run_text(alloc, &end, out.written())
+    Ok(first)
 }

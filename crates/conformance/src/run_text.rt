@@ -36,6 +36,14 @@ fn bytes_text(alloc: Global, bytes: &[u8]) -> Result<String, AllocError> {
     Ok(text)
 }
 
+/// The instances that a run built.
+fn owners_of(end: &RunEnd) -> &[Owner] {
+    match &end.closed {
+        Some(closed) => closed.owners(),
+        None => &[],
+    }
+}
+
 /// The cells that were built, in cell order.
 fn owners_text(alloc: Global, owners: &[Owner]) -> Result<String, AllocError> {
     let mut text = String::from_str(alloc, "owners")?;
@@ -78,7 +86,7 @@ pub fn run_text(alloc: Global, end: &RunEnd, written: &[u8]) -> Result<Option<St
         Answer::Done => {
             let count = written.len();
             let bytes = bytes_text(alloc, written)?;
-            let owners = owners_text(alloc, end.owners.as_slice())?;
+            let owners = owners_text(alloc, owners_of(end))?;
             format!(in alloc; "{status} Done {count} {bytes} {owners}")?
         }
         Answer::Job { offset, kind } => {

@@ -312,7 +312,8 @@ fn the_greatest_size_is_one_below_the_bound(rt: HostRuntime) -> Result<(), Fail>
 /// The instances that a run of a job in the font `tiny10` built.
 fn owners<R: Threads + Sync>(rt: &R, alloc: Global, job: &[u8]) -> Result<Items<Owner>, Fail> {
     let font = tiny10(alloc)?;
-    Ok(set(rt, alloc, job, font.as_slice())?.owners)
+    let run = set(rt, alloc, job, font.as_slice())?;
+    Ok(Items::from_slice(alloc, run.owners())?)
 }
 
 /// An instance of the first font, built by the first worker.

@@ -1,6 +1,6 @@
 //! Whole runs, over files and outputs in memory: jobs with their answers, each command with what it
-//! tells, an outside that fails, and hostile jobs; the fonts that they are set in, read, refused
-//! and run; and generated documents.
+//! tells, an outside that fails, hostile jobs, and several workers; the fonts that they are set in,
+//! read, refused and run; and generated documents.
 //!
 //! The crate has tests alone. What they expect was worked out by hand from the formats.
 #![tactic(auto)]
@@ -27,3 +27,5 @@ mod samples;
 mod tfm_faults;
 #[cfg(test)]
 mod tfm_reads;
+#[cfg(test)]
+mod workers;

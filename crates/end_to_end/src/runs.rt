@@ -3,8 +3,9 @@ ghost use Rattle.std.specs.Prelude.{IfOk};
 ghost use Rattle.outside_io.specs.Reading.{NamesDiffer};
 
 use instance_core::Owner;
+use instance_table::Closed;
 use items::Items;
-use outside_io::{MemShelf, MemSink, NoGate};
+use outside_io::{Gate, MemShelf, MemSink, NoGate};
 use pdfmicro_run::{Answer, run_micro};
 use std::alloc::{AllocError, Global};
 use std::test::Fail;
@@ -28,20 +29,28 @@ pub const SOUND: Failing<'static> = Failing {
     room: 100_000,
 };
 
-/// A run's status, answer, output and talk, and the instances that were built.
+/// A run's status, answer, output and talk, and the receipt of its table of instances.
 #[derive(Drop)]
 pub struct Run {
     pub status: u8,
     pub answer: Answer,
     pub written: Vec<u8>,
     pub told: Vec<u8>,
-    pub owners: Items<Owner>,
+    pub closed: Option<Closed>,
 }
 
 impl Run {
     /// What was told on talk, as text.
     pub fn told(&self) -> &str {
         str::from_utf8(self.told.as_slice()).unwrap_or("no text")
+    }
+
+    /// The instances that were built, with who built them.
+    pub fn owners(&self) -> &[Owner] {
+        match &self.closed {
+            Some(closed) => closed.owners(),
+            None => &[],
+        }
     }
 }
 
@@ -76,14 +85,15 @@ fn texts(alloc: Global, words: &[&str]) -> Result<Vec<String>, AllocError> {
     Ok(texts)
 }
 
-/// Runs the words over a shelf of the two files.
-pub fn run_words<R: Threads + Sync>(
+/// Runs the words over a shelf of the two files, with a gate that the workers pass.
+pub fn run_gated<R: Threads + Sync, G: Gate + Sync>(
     rt: &R,
     alloc: Global,
     words: &[&str],
     job: &[u8],
     font: &[u8],
     failing: &Failing,
+    gate: &G,
 ) -> Result<Run, Fail> {
     let words = texts(alloc, words)?;
     let reads = Items::from_slice(alloc, failing.reads)?;
@@ -100,15 +110,27 @@ pub fn run_words<R: Threads + Sync>(
         &mut shelf,
         &mut out,
         &mut talk,
-        &NoGate,
+        gate,
     );
     Ok(Run {
         status: end.status,
         answer: end.answer,
         written: out.written().to_vec(alloc)?,
         told: talk.written().to_vec(alloc)?,
-        owners: end.owners,
+        closed: end.closed,
     })
+}
+
+/// Runs the words over a shelf of the two files.
+pub fn run_words<R: Threads + Sync>(
+    rt: &R,
+    alloc: Global,
+    words: &[&str],
+    job: &[u8],
+    font: &[u8],
+    failing: &Failing,
+) -> Result<Run, Fail> {
+    run_gated(rt, alloc, words, job, font, failing, &NoGate)
 }
 
 /// Sets the job in the font, with room enough and nothing that fails.

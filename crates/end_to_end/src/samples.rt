@@ -13,3 +13,18 @@ pub const FOUR_WORDS: &[u8] = b"\\font\\f=tiny10 \\f\n\\hsize=24pt\n\\noindent a
 /// A paragraph that the second pass breaks at a hyphen.
 pub const HYPHENATED: &[u8] = b"\\font\\f=tiny10 \\f\n\\hsize=27.5pt \\righthyphenmin=2 \
     \\hyphenation{bb-bb}\n\\noindent aa bbbb\n";
+
+/// The expanded paragraph behind one whose first line is shrunk.
+pub const NARROW_AND_WIDE: &[u8] = b"\\font\\f=tiny10 \\f\n\\hsize=22pt \\pdffontexpand\\f 20 20 1 \
+    \\pdfadjustspacing=2\n\\noindent aa bb cc dd\n\n\\hsize=24pt \\noindent aa bb cc dd\n";
+
+/// Two paragraphs that use the same instance.
+pub const SHARING: &[u8] = b"\\font\\f=tiny10 \\f\n\\hsize=24pt \\pdffontexpand\\f 20 20 1 \
+    \\pdfadjustspacing=2\n\\noindent aa bb cc dd\n\n\\noindent aa bb cc dd\n";
+
+/// Four paragraphs of one line.
+pub const FOUR_LINES: &[u8] = b"\\font\\f=tiny10 \\f\n\\hsize=100pt\n\\noindent abc\n\n\
+    \\noindent abc\n\n\\noindent abc\n\n\\noindent abc\n";
+
+/// Paragraphs of which the second and the last have a character that the font lacks.
+pub const TWO_FAULTS: &[u8] = b"\\font\\f=tiny10 \\f\na\n\n\\char200 a\n\na\n\na\n\n\\char200\n";

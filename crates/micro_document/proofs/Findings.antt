@@ -4,8 +4,8 @@
 --     finds_behind                       with a file that was read in front
 --     finds_missed, finds_no_memory      where no file was read
 --     finds_concluded                    the outcome of a document that wants no file
-use Rattle.std.proofs.Common.{◌≡◌, ℕ, ◌+◌, ◌^◌, ◌<◌, ◌≤◌, List, [], ◌∷◌, length, arith, refl, sym, ◌∙◌, ap, subst}
-use Rattle.std.proofs.Common.{Result, Ok, Err, ◌⊎◌, inl, inr, add-zero}
+use Rattle.std.proofs.Common.{◌≡◌, ℕ, ◌+◌, ◌^◌, ◌<◌, List, [], ◌∷◌, length, arith, refl, ◌∙◌, ap, subst}
+use Rattle.std.proofs.Common.{Result, Ok, Err, ◌⊎◌, inl, inr}
 use Rattle.outside_io.specs.Counts.{RisesBy}
 use Rattle.outside_io.specs.States.{ShelfState}
 use Rattle.micro_texts.specs.declared.answer.Answer.TheVariants.{Absent, ReadFault, FileTooLong, NoMemory}
@@ -14,8 +14,8 @@ use Rattle.micro_document.specs.declared.stop.Stop.{Stop}
 use Rattle.micro_document.specs.Stopping.{stop_of, stop_at}
 use Rattle.micro_document.specs.Outcome.{Outcome, Document, behind}
 use Rattle.micro_document.specs.Outcome.Outcome.{Wants, Refuses, Gives}
-use Rattle.micro_document.specs.Finding.{Files, WasRead, IsMissing, IsTooBig, IsFirstRead, AreReads}
-use Rattle.micro_document.specs.Finding.{ShelfStays, Misses, Concludes, Comes, IsDecided, IsUndecided, Finds, GoesOn}
+use Rattle.micro_document.specs.Finding.{Files, WasRead, IsMissing, IsTooBig, AreReads}
+use Rattle.micro_document.specs.Finding.{ShelfStays, Misses, Concludes, Comes, IsDecided, IsUndecided, Finds}
 use Rattle.micro_document.specs.Finding.Misses.{is_absent, is_too_long, has_failed, is_unread}
 
 pub stays_same : (shelf : ShelfState) → ShelfStays shelf shelf

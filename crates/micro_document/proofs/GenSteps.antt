@@ -1,7 +1,7 @@
 -- What a generated document comes to, step by step.
 --     gen_refused, gen_fontless, gen_unset, gen_set    where a step ends it
 --     gen_found, gen_stopped                           as what a run finds of the command
-use Rattle.std.proofs.Common.{◌≡◌, ℕ, ◌^◌, ◌<◌, List, [], ◌∷◌, length, replicate, true, refl, sym, ap, subst, Result, Ok, Err, ◌⊎◌, inl, inr}
+use Rattle.std.proofs.Common.{◌≡◌, ℕ, ◌^◌, ◌<◌, List, [], length, replicate, true, refl, sym, ap, subst, Result, Ok, Err, ◌⊎◌, inl, inr}
 use Rattle.outside_io.specs.States.{ShelfState}
 use Rattle.font_stock.specs.declared.font.Font.{Font}
 use Rattle.job_text.specs.Answers.{said_of, IsJobOf}
@@ -13,12 +13,11 @@ use Rattle.micro_words.specs.declared.command.CommandKind.TheVariants.{Gen}
 use Rattle.micro_texts.specs.declared.answer.Answer.{Answer}
 use Rattle.micro_texts.specs.declared.answer.Answer.TheVariants.{NoMemory}
 use Rattle.micro_document.specs.declared.made.Made.{Made}
-use Rattle.micro_document.specs.declared.stop.Stop.{Stop}
 use Rattle.micro_document.specs.Stopping.{stop_of}
-use Rattle.micro_document.specs.Making.{Makes, Settles, SettlesSome}
+use Rattle.micro_document.specs.Making.{Settles, SettlesSome}
 use Rattle.micro_document.specs.Outcome.{Outcome}
 use Rattle.micro_document.specs.Outcome.Outcome.{Refuses}
-use Rattle.micro_document.specs.Document.{IsJobRefusal, FontsFrom, GivenFrom, GenFrom, KindFrom}
+use Rattle.micro_document.specs.Document.{IsJobRefusal, FontsFrom, GenFrom, KindFrom}
 use Rattle.micro_document.specs.Finding.{Finds}
 use Rattle.micro_document.specs.Setting.{set_outcome, gen_outcome}
 use Rattle.micro_document.specs.Steps.{GivesFonts, RefusesFonts}
@@ -54,9 +53,9 @@ gen_unset number bytes font job stock answer e f is gives settles =
     settles_some number (gen_outcome job stock) (Err answer) (behind_job number bytes font job (gen_outcome job stock) e f is (gives gen_outcome)) (report_refused job stock answer settles)
 
 pub gen_set : (number : ℕ) (bytes font : List ℕ) (job : Job) (stock : List Font) (made alone : Made) → bytes ≡ gen_job number → font ≡ tiny10 → IsJobOf bytes (said_of job) → GivesFonts job font stock
-    → Settles (set_outcome true job stock) (Ok made) → alone.out ≡ [] → alone.talk ≡ made.talk → alone.owners ≡ made.owners → SettlesSome (GenFrom number) (Ok alone)
-gen_set number bytes font job stock made alone e f is gives settles out talk owners =
-    inl (gen_outcome job stock, behind_job number bytes font job (gen_outcome job stock) e f is (gives gen_outcome), report_alone job stock made alone out talk owners settles)
+    → Settles (set_outcome true job stock) (Ok made) → alone.out ≡ [] → alone.talk ≡ made.talk → alone.closed ≡ made.closed → SettlesSome (GenFrom number) (Ok alone)
+gen_set number bytes font job stock made alone e f is gives settles out talk closed =
+    inl (gen_outcome job stock, behind_job number bytes font job (gen_outcome job stock) e f is (gives gen_outcome), report_alone job stock made alone out talk closed settles)
 
 -- ---- as what is found of the command
 

@@ -1,5 +1,5 @@
 -- Words and the bytes of the files that were read have at most one outcome.
-use Rattle.std.proofs.Common.{◌≡◌, ℕ, List, [], ◌∷◌, ◌++◌, length, replicate, Option, Some, None, sym, ◌∙◌, subst, ◌⊎◌, inl, inr}
+use Rattle.std.proofs.Common.{◌≡◌, ℕ, List, [], ◌∷◌, ◌++◌, length, replicate, Option, Some, None, sym, ◌∙◌, subst, inl, inr}
 use Rattle.font_stock.specs.declared.font.Font.{Font}
 use Rattle.job_text.specs.Answers.{said_of}
 use Rattle.job_text.specs.declared.font_decl.FontDecl.{FontDecl}

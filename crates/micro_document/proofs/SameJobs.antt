@@ -1,5 +1,5 @@
 -- Jobs that say the same are the same.
-use Rattle.std.proofs.Common.{◌≡◌, ℕ, ◌+◌, List, [], ◌∷◌, length, map, All, Option, Some, None, refl, ap}
+use Rattle.std.proofs.Common.{◌≡◌, ◌+◌, List, [], ◌∷◌, length, map, All, Option, Some, None, refl, ap}
 use Rattle.std.specs.Option.{option_map}
 use Rattle.std.proofs.Props.{props}
 use mathlib.Core.HLevel.{is_prop→PathP}
@@ -8,8 +8,8 @@ use Rattle.font_stock.specs.declared.codes.FontCodes.{FontCodes}
 use Rattle.font_stock.specs.declared.expand.Expand.{Expand}
 use Rattle.liang_hyph.specs.declared.source.Pattern.{Pattern}
 use Rattle.job_text.specs.Answers.{Said, said_of}
-use Rattle.job_text.specs.Fonts.{Codes, Limits, Font, codes_of, limits_of, font_of, fonts_of}
-use Rattle.job_text.specs.Hyphenation.{PatternText, pattern_text, patterns_of}
+use Rattle.job_text.specs.Fonts.{Codes, Limits, Font, codes_of, limits_of, font_of}
+use Rattle.job_text.specs.Hyphenation.{pattern_text}
 use Rattle.job_text.specs.declared.font_decl.FontDecl.{FontDecl}
 use Rattle.job_text.specs.declared.job.Job.{Job}
 

@@ -5,7 +5,7 @@
 --     job_refused, job_goes_on, job_made, job_unmade     the job
 --     file_missed, file_goes_on                          the file of the job
 --     kind_found, words_refused, words_go_on             the command and its words
-use Rattle.std.proofs.Common.{◌≡◌, ℕ, ◌+◌, ◌^◌, ◌<◌, ◌≤◌, List, [], ◌∷◌, ◌++◌, length, drop, replicate, refl, sym, ◌∙◌, ap, subst, arith}
+use Rattle.std.proofs.Common.{◌≡◌, ℕ, ◌+◌, ◌^◌, ◌<◌, List, [], ◌∷◌, ◌++◌, length, drop, replicate, refl, sym, ◌∙◌, ap, subst, arith}
 use Rattle.std.proofs.Common.{Option, Some, None, Result, Ok, Err, ◌⊎◌, inl, inr, length-append, drop-cons, get_or, add-one}
 use Rattle.outside_io.specs.Counts.{RisesBy}
 use Rattle.outside_io.specs.States.{ShelfState}

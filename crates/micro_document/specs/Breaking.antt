@@ -1,7 +1,7 @@
 -- What a job comes to with its fonts: the lines that tell how its paragraphs are broken.
 --     breaks_outcome job stock     a line for each paragraph, or the first that has no list
 -- Every paragraph is broken before a line is given.
-use Rattle.std.specs.Prelude.{ℕ, List, [], Result, Ok, Err}
+use Rattle.std.specs.Prelude.{ℕ, List, [], None, Result, Ok, Err}
 use Rattle.font_stock.specs.declared.font.Font.{Font}
 use Rattle.job_text.specs.declared.job.Job.{Job}
 use Rattle.job_breaks.specs.Lines.{broken_lines}
@@ -12,7 +12,7 @@ use Rattle.micro_document.specs.Outcome.Outcome.{Refuses, Gives}
 
 abbrev pub lines_outcome : Result (List (List ℕ)) ParAt → Outcome
 lines_outcome (Err at) = Refuses (Par at)
-lines_outcome (Ok lines) = Gives (record { out = []; talk = lines; used = [] })
+lines_outcome (Ok lines) = Gives (record { out = []; talk = lines; instances = None })
 
 unfoldable pub breaks_outcome : Job → List Font → Outcome
 breaks_outcome job stock = lines_outcome (broken_lines job stock)

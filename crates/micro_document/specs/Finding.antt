@@ -16,7 +16,7 @@ use Rattle.micro_document.specs.declared.files.TheConstants.{MOST_FILE_BYTES}
 use Rattle.micro_document.specs.declared.made.Made.{Made}
 use Rattle.micro_document.specs.declared.stop.Stop.{Stop}
 use Rattle.micro_document.specs.Making.{IsMade}
-use Rattle.micro_document.specs.Outcome.{Output, Outcome, Document, behind}
+use Rattle.micro_document.specs.Outcome.{Outcome, Document, behind}
 use Rattle.micro_document.specs.Outcome.Outcome.{Wants, Refuses, Gives}
 use Rattle.micro_document.specs.Stopping.{stop_of, stop_at}
 

@@ -4,10 +4,11 @@
 --     file_outcome output           the output, unless its file has 2^31 bytes or more
 --     set_outcome report job stock  the file of a job, or its first paragraph that can't be set
 --     gen_outcome job stock         the report alone, with the same faults
---     RefusesPar, RefusesLength     how a step answers either fault, unless memory runs out
+--     RefusesLength                 how the writing of a file answers its fault, unless memory runs
+--                                   out
 use Rattle.std.specs.Prelude.{◌≡◌, ◌<◌, ◌⊎◌, ℕ, Bool, true, false, List, [], ◌∷◌, length, map}
 use Rattle.std.specs.Prelude.{nat_lt, if◌then◌else◌}
-use Rattle.std.specs.Prelude.{Result, Ok, Err}
+use Rattle.std.specs.Prelude.{Some, Result, Ok, Err}
 use Rattle.font_stock.specs.declared.font.Font.{Font}
 use Rattle.hpack_two.specs.Over.{base_of}
 use Rattle.instance_core.specs.declared.page.Page.{Page}
@@ -20,7 +21,7 @@ use Rattle.job_dvi.specs.Rows.{rows_of}
 use Rattle.micro_texts.specs.Reports.{report_of, report_text}
 use Rattle.micro_texts.specs.declared.answer.Answer.{Answer}
 use Rattle.micro_texts.specs.declared.answer.Answer.TheVariants.{Par, DviTooLong, NoMemory}
-use Rattle.micro_document.specs.Outcome.{Output, Outcome}
+use Rattle.micro_document.specs.Outcome.{Instances, Output, Outcome}
 use Rattle.micro_document.specs.Outcome.Outcome.{Wants, Refuses, Gives}
 
 -- a report counts the fonts by the numbering of the file
@@ -29,11 +30,17 @@ reports_of false pages out = []
 reports_of true pages out =
     report_text (report_of pages (first_uses (cells_of_pages pages)) (length out)) ∷ []
 
+abbrev pub instances_of : List Font → List Page → Instances
+instances_of stock pages = record {
+  fonts = map base_of stock;
+  used = used (map base_of stock) pages;
+}
+
 abbrev pub output_of : Bool → Job → List Font → List Page → Output
 output_of report job stock pages = record {
   out = dvi (rows_of job.fonts stock) pages;
   talk = reports_of report pages (dvi (rows_of job.fonts stock) pages);
-  used = used (map base_of stock) pages;
+  instances = Some (instances_of stock pages);
 }
 
 abbrev pub file_outcome : Output → Outcome
@@ -56,10 +63,6 @@ talk_alone (Gives output) = Gives (record output { out = [] })
 
 abbrev pub gen_outcome : Job → List Font → Outcome
 gen_outcome job stock = talk_alone (set_outcome true job stock)
-
-abbrev pub RefusesPar : Result (List Page) ParAt → Answer → Type 0
-RefusesPar wanted answer =
-    ((at : ParAt) × (wanted ≡ Err at) × (answer ≡ Par at)) ⊎ (answer ≡ NoMemory)
 
 abbrev pub RefusesLength : ℕ → Answer → Type 0
 RefusesLength bytes answer =

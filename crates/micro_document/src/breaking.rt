@@ -1,5 +1,5 @@
 //! Breaks a job: its paragraphs as the lines that tell how they are broken.
-ghost use Rattle.std.specs.Prelude.{◌≡◌, length};
+ghost use Rattle.std.specs.Prelude.{◌≡◌, IfOk, None, length};
 ghost use Rattle.job_text.specs.Fits.{JobFits};
 ghost use Rattle.micro_document.specs.Breaking.{breaks_outcome};
 ghost use Rattle.micro_document.specs.Making.{Settles};
@@ -18,14 +18,15 @@ use std::alloc::Global;
 pub(crate) fn break_job(alloc: Global, job: Job, stock: &Stock) -> Result<Made, Answer>
     requires fits { JobFits job }
     requires count { length stock.now ≡ length job.fonts }
-    ensures { Settles (breaks_outcome job stock.now) result }
+    ensures settles { Settles (breaks_outcome job stock.now) result }
+    ensures closed { IfOk result (λ made. made.closed ≡ None) }
 {
     let table = Patterns::make(alloc, job.patterns.as_slice(), job.exceptions.as_slice())?;
     match break_pars(alloc, job.pars.as_slice(), &job.tables, &table, stock) {
         Ok(talk) => Ok(Made {
             out: Items::new(alloc),
             talk,
-            owners: Items::new(alloc),
+            closed: None,
         }),
         Err(SetFault::Par { at }) => Err(Answer::Par { at }),
         Err(SetFault::NoMemory) => Err(Answer::NoMemory),

@@ -2,10 +2,11 @@
 ghost use Rattle.std.specs.Prelude.{◌≡◌, ◌≤◌, ◌<◌, length, IfOk, IfErr};
 ghost use Rattle.job_text.specs.Fits.{JobFits};
 ghost use Rattle.micro_document.specs.Document.{GenFrom};
-ghost use Rattle.micro_document.specs.Making.{SettlesSome};
+ghost use Rattle.micro_document.specs.Making.{IsMadeBy, SettlesSome};
 ghost use Rattle.micro_document.specs.Steps.{GivesFonts, RefusesFonts};
 
 use crate::command::job_of;
+use crate::crew::Crew;
 use crate::fonts::font_answer;
 use crate::made::Made;
 use crate::setting::set_job;
@@ -15,7 +16,9 @@ use job_fonts::read_font;
 use job_text::Job;
 use micro_texts::Answer;
 use micro_words::{gen_font, gen_job};
+use outside_io::Gate;
 use std::alloc::Global;
+use std::thread::Threads;
 
 /// The fonts of a job that all have the same file, or the first that can't be had.
 fn given_fonts(alloc: Global, job: &Job, bytes: &[u8]) -> Result<Stock, Answer>
@@ -36,10 +39,17 @@ fn given_fonts(alloc: Global, job: &Job, bytes: &[u8]) -> Result<Stock, Answer>
 }
 
 /// The report of the generated document of so many paragraphs, from 1 to 20000.
-pub(crate) fn generated(alloc: Global, number: u32) -> Result<Made, Answer>
+pub(crate) fn generated<R: Threads + Sync, G: Gate + Sync>(
+    crew: &Crew<R, G>,
+    alloc: Global,
+    number: u32,
+) -> Result<Made, Answer>
+    requires one { 1 ≤ crew.now.workers }
+    requires most { crew.now.workers ≤ 64 }
     requires some { 1 ≤ number }
     requires few { number ≤ 20000 }
-    ensures { SettlesSome (GenFrom number) result }
+    ensures settles { SettlesSome (GenFrom number) result }
+    ensures workers { IfOk result (IsMadeBy crew.now.workers) }
 {
     let job = job_of(alloc, Items::from_vec(gen_job(alloc, number)?))?;
     let bytes = gen_font(alloc)?;
@@ -47,11 +57,11 @@ pub(crate) fn generated(alloc: Global, number: u32) -> Result<Made, Answer>
     let Made {
         out: _out,
         talk,
-        owners,
-    } = set_job(alloc, job, &stock, true)?;
+        closed,
+    } = set_job(crew, alloc, job, &stock, true)?;
     Ok(Made {
         out: Items::new(alloc),
         talk,
-        owners,
+        closed,
     })
 }

@@ -9,6 +9,7 @@
 
 mod breaking;
 mod command;
+mod crew;
 mod files;
 mod fonts;
 mod generated;

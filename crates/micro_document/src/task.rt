@@ -1,16 +1,19 @@
 //! What becomes of a job once its fonts are read.
-ghost use Rattle.std.specs.Prelude.{◌≡◌, length};
+ghost use Rattle.std.specs.Prelude.{◌≡◌, ◌≤◌, IfOk, length};
 ghost use Rattle.job_text.specs.Fits.{JobFits};
 ghost use Rattle.micro_document.specs.Document.{finish_of};
-ghost use Rattle.micro_document.specs.Making.{Settles};
+ghost use Rattle.micro_document.specs.Making.{IsMadeBy, Settles};
 
 use crate::breaking::break_job;
+use crate::crew::Crew;
 use crate::made::Made;
 use crate::setting::set_job;
 use font_stock::Stock;
 use job_text::Job;
 use micro_texts::Answer;
+use outside_io::Gate;
 use std::alloc::Global;
+use std::thread::Threads;
 
 /// What a command that reads a job makes of it.
 #[derive(Clone, Copy)]
@@ -23,13 +26,22 @@ pub enum Task {
 
 impl Task {
     /// What it makes of a job with its fonts.
-    pub(crate) fn finish(self, alloc: Global, job: Job, stock: &Stock) -> Result<Made, Answer>
+    pub(crate) fn finish<R: Threads + Sync, G: Gate + Sync>(
+        self,
+        crew: &Crew<R, G>,
+        alloc: Global,
+        job: Job,
+        stock: &Stock,
+    ) -> Result<Made, Answer>
+        requires some { 1 ≤ crew.now.workers }
+        requires few { crew.now.workers ≤ 64 }
         requires fits { JobFits job }
         requires count { length stock.now ≡ length job.fonts }
-        ensures { Settles (finish_of self job stock.now) result }
+        ensures settles { Settles (finish_of self job stock.now) result }
+        ensures workers { IfOk result (IsMadeBy crew.now.workers) }
     {
         match self {
-            Task::Set { report } => set_job(alloc, job, stock, report),
+            Task::Set { report } => set_job(crew, alloc, job, stock, report),
             Task::Breaks => break_job(alloc, job, stock),
         }
     }

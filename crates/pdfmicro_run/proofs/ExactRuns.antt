@@ -3,7 +3,7 @@
 --     meets                      two lists of reads, of which the first leads to its last outcome
 --     exact_run, complete_run    what is said of a whole run
 use Rattle.std.proofs.Common.{◌≡◌, ℕ, ◌+◌, ◌<◌, ◌≤◌, List, [], ◌∷◌, length, get_or, refl, sym, ◌∙◌, ap, subst, arith}
-use Rattle.std.proofs.Common.{Option, Some, None, IfSome, IsSome, Result, Ok, Err, ◌⊎◌, inl, inr}
+use Rattle.std.proofs.Common.{Some, None, IfSome, IsSome, Result, Ok, Err, ◌⊎◌, inl, inr}
 use Rattle.std.proofs.lemmas.Bool.{cases_order, false≢true}
 use Rattle.std.proofs.lemmas.List.{get_or_default}
 use Rattle.outside_io.specs.Counts.{Rose}
@@ -14,13 +14,13 @@ use Rattle.micro_texts.specs.declared.answer.Answer.TheVariants.{ReadFault, NoMe
 use Rattle.micro_document.specs.declared.made.Made.{Made}
 use Rattle.micro_document.specs.declared.stop.Stop.{Stop}
 use Rattle.micro_document.specs.Outcome.{Output, Outcome, Document, behind, AtMostOne}
-use Rattle.micro_document.specs.Outcome.Outcome.{Wants, Refuses, Gives}
-use Rattle.micro_document.specs.Finding.{Files, WasRead, IsMissing, IsTooBig, AreReads, Misses, Comes, IsDecided, IsUndecided, Finds}
+use Rattle.micro_document.specs.Outcome.Outcome.{Wants, Gives}
+use Rattle.micro_document.specs.Finding.{Files, WasRead, IsMissing, IsTooBig, AreReads, Misses, Comes, IsDecided, IsUndecided}
 use Rattle.micro_document.specs.Finding.Misses.{is_absent, is_too_long, has_failed, is_unread}
 use Rattle.micro_document.specs.Stopping.{stop_of, stop_at}
 use Rattle.micro_document.proofs.Findings.{stays_same, comes_before}
 use Rattle.pdfmicro_run.specs.declared.ending.RunEnd.{RunEnd}
-use Rattle.pdfmicro_run.specs.Ran.{Outside, Tells, Ran, IsLast, Says, IsReadFault, IsInterrupted, Exact, IsDone, Complete}
+use Rattle.pdfmicro_run.specs.Ran.{Outside, Tells, Ran, IsLast, Says, IsInterrupted, Exact, IsDone, Complete}
 
 -- two files at places in a list in which no two have one name
 same_place : (files : List (List ℕ × List ℕ)) (name a b : List ℕ) (i j : ℕ) → NamesDiffer files → i < length files → j < length files → get_or files i (name, a) ≡ (name, a) → get_or files j (name, b) ≡ (name, b) → (i ≡ j) ⊎ ((i < j) ⊎ (j < i)) → a ≡ b

@@ -1,4 +1,5 @@
 pub mod ExactRuns
+pub mod Headlines
 pub mod PiecesLaws
 pub mod TextsLaws
 pub mod WordsTold

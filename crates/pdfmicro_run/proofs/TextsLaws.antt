@@ -1,19 +1,19 @@
 -- Texts written one after another, and lines of messages.
 --     texts_none, texts_more, texts_all, texts_part     texts
 --     says_fixed, not_fixed, says_made, says_lost       a message
-use Rattle.std.proofs.Common.{◌≡◌, ℕ, ◌+◌, ◌^◌, ◌<◌, ◌≤◌, List, [], ◌∷◌, ◌++◌, length, drop, get_or, add-one, refl, sym, ◌∙◌, ap, arith, append_assoc, append-nil, subst, length-append, drop-cons}
-use Rattle.std.proofs.Common.{Bool, true, false, Option, Some, None, ◌⊎◌, inl, inr}
+use Rattle.std.proofs.Common.{◌≡◌, ℕ, ◌+◌, ◌^◌, ◌<◌, List, [], ◌∷◌, ◌++◌, length, drop, get_or, add-one, refl, sym, ◌∙◌, ap, arith, append_assoc, append-nil, subst, length-append, drop-cons}
+use Rattle.std.proofs.Common.{true, false, Option, Some, None, inl, inr}
 use Rattle.std.specs.List.{concat}
 use Rattle.std.specs.Prelude.{is_some}
 use Rattle.std.specs.Io.KnownBytes.{Appends}
 use Rattle.std.proofs.KnownBytes.{Appends-nil, Appends-trans}
-use Rattle.outside_io.specs.Counts.{Rose, RisesBy}
+use Rattle.outside_io.specs.Counts.{RisesBy}
 use Rattle.outside_io.specs.Writing.{AppendsPrefix}
 use Rattle.outside_io.specs.States.{SinkState}
 use Rattle.micro_texts.specs.Messages.{fixed_of, message_of}
 use Rattle.micro_texts.specs.declared.answer.Answer.{Answer}
 use Rattle.micro_texts.specs.declared.answer.Answer.TheVariants.{Done, Job, Font, Par, DviTooLong, BadWords, Absent, ReadFault, OutFault, TalkFault, NoMemory, FileTooLong}
-use Rattle.pdfmicro_run.specs.Ran.{IsLineTold, IsMessage, SaysAnswer, Talks, TalksPart}
+use Rattle.pdfmicro_run.specs.Ran.{IsMessage, SaysAnswer, Talks, TalksPart}
 
 -- a front of the texts was written, each in one call, and the others are to come
 pub record TextsSaid (texts left : List (List ℕ)) (old new : SinkState) : Type 0 where

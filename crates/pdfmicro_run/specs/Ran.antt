@@ -95,14 +95,14 @@ IsWriting answer = (answer ≡ Done) ⊎ ((answer ≡ OutFault) ⊎ (answer ≡ 
 -- the command was carried out
 pub record IsWritten (made : Made) (before after : Outside) (end : RunEnd) : Type 0 where
   pub answer : end.answer ≡ Done
-  pub owners : end.owners ≡ made.owners
+  pub closed : end.closed ≡ made.closed
   pub out : Writes made.out before.out after.out
   pub talk : Talks made.talk before.talk after.talk
 
 -- the output failed, which needs something to write, and the message tells it
 pub record IsBrokenOff (made : Made) (before after : Outside) (end : RunEnd) : Type 0 where
   pub answer : end.answer ≡ OutFault
-  pub owners : end.owners ≡ []
+  pub closed : end.closed ≡ None
   pub some : 0 < length made.out
   pub cause : Rose before.out.faults after.out.faults
   pub out : WritesPart made.out before.out after.out
@@ -111,7 +111,7 @@ pub record IsBrokenOff (made : Made) (before after : Outside) (end : RunEnd) : T
 -- talk failed, which needs a text, behind the whole output
 pub record IsHushed (made : Made) (before after : Outside) (end : RunEnd) : Type 0 where
   pub answer : end.answer ≡ TalkFault
-  pub owners : end.owners ≡ []
+  pub closed : end.closed ≡ None
   pub some : 0 < length made.talk
   pub cause : Rose before.talk.faults after.talk.faults
   pub out : Writes made.out before.out after.out
@@ -124,7 +124,7 @@ TellsMade made before after end =
 
 -- the stop's answer is told, and nothing is written to the output
 pub record IsToldStop (stop : Stop) (before after : Outside) (end : RunEnd) : Type 0 where
-  pub owners : end.owners ≡ []
+  pub closed : end.closed ≡ None
   pub out : after.out ≡ before.out
   pub says : SaysAnswer stop.answer (unwrap_or stop.name []) before.talk after.talk end.answer
 

@@ -1,5 +1,5 @@
 //! Writes what was found of a document, and ends the run.
-ghost use Rattle.std.specs.Prelude.{◌≡◌, ◌≤◌, ◌⊎◌, [], unwrap_or};
+ghost use Rattle.std.specs.Prelude.{◌≡◌, ◌≤◌, ◌⊎◌, [], None, unwrap_or};
 ghost use Rattle.outside_io.specs.States.{ShelfState, SinkState};
 ghost use Rattle.micro_texts.specs.Status.{status_of};
 ghost use Rattle.pdfmicro_run.specs.Ran.{outside, IsWriting, SaysAnswer, Tells, TellsMade};
@@ -7,7 +7,6 @@ ghost use Rattle.pdfmicro_run.specs.Ran.{outside, IsWriting, SaysAnswer, Tells, 
 use crate::ending::RunEnd;
 use crate::lines::{say, write_texts};
 use crate::pieces::write_pieces;
-use items::Items;
 use micro_document::{Made, Stop};
 use micro_texts::Answer;
 use outside_io::Sink;
@@ -17,13 +16,13 @@ use std::alloc::Global;
 fn told<T: Sink>(alloc: Global, answer: Answer, name: &str, talk: &mut T) -> RunEnd
     ensures says { SaysAnswer answer name.now
         (T.state talk.old) (T.state talk.new) result.answer }
-    ensures owners { result.owners ≡ [] }
+    ensures closed { result.closed ≡ None }
     ensures status { result.status ≡ status_of result.answer }
     ensures calls { (T.state talk.old).calls ≤ (T.state talk.new).calls }
     ensures faults { (T.state talk.old).faults ≤ (T.state talk.new).faults }
 {
     let said = say(alloc, answer, name, talk);
-    RunEnd::with(said, Items::new(alloc))
+    RunEnd::with(said, None)
 }
 
 /// Writes what was made: the output, and then the texts.
@@ -41,15 +40,15 @@ fn written<O: Sink, T: Sink>(alloc: Global, made: Made, out: &mut O, talk: &mut 
     let Made {
         out: bytes,
         talk: texts,
-        owners,
+        closed,
     } = made;
     match write_pieces(out, bytes.as_slice()) {
         Ok(()) => {}
         Err(_) => return told(alloc, Answer::OutFault, "", talk),
     }
     match write_texts(talk, texts.as_slice()) {
-        Ok(()) => RunEnd::with(Answer::Done, owners),
-        Err(_) => RunEnd::with(Answer::TalkFault, Items::new(alloc)),
+        Ok(()) => RunEnd::with(Answer::Done, closed),
+        Err(_) => RunEnd::with(Answer::TalkFault, None),
     }
 }
 

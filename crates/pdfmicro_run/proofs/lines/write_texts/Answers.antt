@@ -1,4 +1,4 @@
-use Rattle.std.proofs.Common.{◌≡◌, ◌+◌, ◌∷◌, List, ℕ, drop, arith, refl, sym, ◌∙◌, ap}
+use Rattle.std.proofs.Common.{◌+◌, ◌∷◌, List, ℕ, drop, arith, refl, sym, ◌∙◌, ap}
 use Rattle.std.proofs.lemmas.List.{drop_all}
 use Rattle.pdfmicro_run.proofs.TextsLaws.{texts_none, texts_more, texts_all, texts_part, some_text, texts_split}
 use Rattle.pdfmicro_run.proofs.lines.write_texts.Goals as goal
