@@ -1,7 +1,6 @@
 -- What a job that was read says of its pages.
 --     places-made       a table of its patterns and exceptions has its places
 --     set_par-made, lines_of_par-made    so a paragraph is set by the one as by the other
---     pages_of-made     and the pages are those of the job
 --     job-settable      its paragraphs can be set
 use Rattle.std.proofs.Common.{◌≡◌, ℕ, ◌<◌, ◌^◌, ap, arith, Bool, false, ℤ, List, [], ◌∷◌, length, ◌||◌}
 use Rattle.std.specs.Prelude.{All, unsigned_abs}
@@ -19,7 +18,7 @@ use Rattle.hlist_hyph.specs.Hyphenated.{Places, places_in}
 use Rattle.job_reading.specs.Bounds.{IsLength}
 use Rattle.job_text.specs.Fits.{JobFits, PartsFit, NamesFont as names_font, is_font}
 use Rattle.job_text.specs.declared.job.Job.{Job}
-use Rattle.para_workers.specs.Pages.{IsSettable, pages_from, pages_of, places_for}
+use Rattle.para_workers.specs.Pages.{IsSettable, places_for}
 use Rattle.para_workers.specs.SetPar.{lines_of_par, set_par}
 
 pub places-made : (table : PatternTable) (job : Job) → IsMadeOf table job.patterns job.exceptions → places_in table ≡ places_for job
@@ -34,11 +33,6 @@ pub lines_of_par-made : (table : PatternTable) (job : Job) (stock : List Font) (
     → lines_of_par par job.tables (places_in table par.params) stock ≡ lines_of_par par job.tables (places_for job par.params) stock
 lines_of_par-made table job stock par made =
     ap (λ (places : Params → Places). lines_of_par par job.tables (places par.params) stock) (places-made table job made)
-
-pub pages_of-made : (table : PatternTable) (job : Job) (stock : List Font) → IsMadeOf table job.patterns job.exceptions
-    → pages_from job.tables (places_in table) stock 1 job.pars ≡ pages_of job stock
-pages_of-made table job stock made =
-    ap (λ (places : Params → Places). pages_from job.tables places stock 1 job.pars) (places-made table job made)
 
 -- ---- what each paragraph is kept to
 

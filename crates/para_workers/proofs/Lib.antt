@@ -5,5 +5,4 @@ pub mod WholePages
 pub mod OneLine
 pub mod ChosenCells
 pub mod FittingPages
-pub mod PageTurns
 pub mod JobLaws

@@ -4,7 +4,7 @@
 --     pages_from                 those of paragraphs of which the first has a number
 --     pages_of job stock         those of all, or the first paragraph that has none
 --     set_fault                  the fault of a paragraph of a number
---     SetsPage, SetsPages        an answer is this, but for want of memory
+--     SetsPages                  an answer is this, but for want of memory
 --     IsSettable count par       a paragraph of so many fonts, whose lengths are in range
 use Rattle.std.specs.Prelude.{◌≡◌, ⊤, ℕ, ◌+◌, ◌<◌, ◌^◌, List, [], ◌∷◌, length, All, Result, Ok, Err}
 use Rattle.font_stock.specs.declared.font.Font.{Font}
@@ -52,11 +52,6 @@ pages_of job stock = pages_from job.tables (places_for job) stock 1 job.pars
 abbrev pub set_fault : ℕ → ParFault → SetFault
 set_fault number no_memory = NoMemory
 set_fault number fault = par_fault (record { paragraph = number; fault = fault })
-
-abbrev pub SetsPage : ℕ → Result Page ParFault → Result Page SetFault → Type 0
-SetsPage number wanted (Ok page) = wanted ≡ Ok page
-SetsPage number wanted (Err (par_fault at)) = (at.paragraph ≡ number) × (wanted ≡ Err at.fault)
-SetsPage number wanted (Err NoMemory) = ⊤
 
 abbrev pub SetsPages : Result (List Page) ParAt → Result (List Page) SetFault → Type 0
 SetsPages wanted (Ok pages) = wanted ≡ Ok pages
