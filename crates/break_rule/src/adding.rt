@@ -77,6 +77,7 @@ fn sub_sums(stock: &Stock, sub: &Sub) -> Sums
 
 /// What a character or ligature of a font adds.
 #[tactic(auto, unfolding(crate::specs::Adding::sums_of_glyph))]
+#[inline(always)]
 pub fn glyph_sums(stock: &Stock, font: u32, code: u8) -> Sums
     requires { font < length stock.now }
     ensures exact { result ≡ sums_of_glyph stock.now font code }
@@ -108,6 +109,7 @@ pub fn kern_sums(stock: &Stock, width: Sp, left: Option<KernLeft>) -> Sums
 }
 
 /// A width that expands.
+#[inline(always)]
 fn expanding(width: Sp, font_stretch: i64, font_shrink: i64) -> Sums
     requires stretch { unsigned_abs font_stretch ≤ 2 ^ 32 }
     requires shrink { unsigned_abs font_shrink ≤ 2 ^ 32 }

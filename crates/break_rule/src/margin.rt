@@ -124,7 +124,7 @@ fn width_margin(width: Sp) -> Option<i64>
 /// How far a character or ligature hangs out.
 #[inline(always)]
 #[tactic(auto, unfolding(crate::specs::Lines::hang_of_glyph))]
-fn glyph_hang(side: Side, stock: &Stock, font: u32, code: u8) -> i64
+pub fn glyph_hang(side: Side, stock: &Stock, font: u32, code: u8) -> i64
     requires { font < length stock.now }
     ensures exact { result ≡ hang_of_glyph side stock.now font code }
     ensures small { unsigned_abs result ≤ 2 ^ 31 }

@@ -38,7 +38,8 @@ pub fn line_between(
         ≡ pieces_between params.now post.now middle.now pre.now hangs.left hangs.right) }
     ensures small { IfOk result (λ pieces. All IsSmallMove pieces) }
 {
-    let mut pieces = Items::new(alloc);
+    let room = middle.len().saturating_add(4);
+    let mut pieces = Items::from_vec(Vec::with_capacity(alloc, room)?);
     pieces.push(Piece::Space {
         glue: params.leftskip,
     })?;

@@ -244,6 +244,7 @@ impl<'a> BreakRule<'a> {
     }
 
     /// What is kept of the break that a line begins with.
+    #[inline(always)]
     fn opening(&self, from: From) -> &Opening
         requires { IsFrom self.now from }
         ensures exact { result.now ≡ opening_of self.now.stock self.now.items from }
@@ -256,6 +257,7 @@ impl<'a> BreakRule<'a> {
     }
 
     /// What is kept of the place at which a line ends.
+    #[inline(always)]
     fn closing(&self, to: u32) -> &Closing
         requires { IsPlace self.now to }
         ensures exact { result.now ≡ closing_of self.now.params self.now.stock self.now.items to }
@@ -265,6 +267,7 @@ impl<'a> BreakRule<'a> {
     }
 
     /// What a line adds up to.
+    #[inline(always)]
     fn sums(&self, from: From, to: u32) -> Sums
         requires from { IsFrom self.now from }
         requires to { IsPlace self.now to }
@@ -275,6 +278,7 @@ impl<'a> BreakRule<'a> {
     }
 
     /// How far the characters at the margins of a line hang out.
+    #[inline(always)]
     fn hangs(&self, from: From, to: u32) -> Hangs
         requires from { IsFrom self.now from }
         requires to { IsPlace self.now to }
@@ -292,6 +296,7 @@ impl<'a> BreakRule<'a> {
     }
 
     /// The hangs that count in the fit of a line, which level 2 asks for.
+    #[inline(always)]
     fn counted_hang(&self, from: From, to: u32) -> i64
         requires from { IsFrom self.now from }
         requires to { IsPlace self.now to }

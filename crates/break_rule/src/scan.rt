@@ -3,15 +3,17 @@
 ghost use Rattle.std.specs.Prelude.{◌≡◌, ◌+◌, ◌-◌, ◌<◌, ◌≤◌, ◌^◌, All, IfOk, IfSome, length, map, pos};
 ghost use Rattle.std.specs.List.{range_with_len};
 ghost use Rattle.hlist.specs.Bounds.{unbroken_count, unbroken_weight};
-ghost use Rattle.break_rule.specs.Adding.{nothing, sums_of};
+ghost use Rattle.break_rule.specs.Adding.{nothing, plus, sums_of, sums_of_glyph};
+ghost use Rattle.break_rule.specs.Lines.{hang_of_glyph};
+ghost use Rattle.break_rule.specs.declared.margin.Side.TheVariants.{Left, Right};
 ghost use Rattle.break_rule.specs.Kept.{IsWithin, IsHang, IsSmallBefore, IsSmallRest, IsScan};
 ghost use Rattle.break_rule.specs.Kept.{before_of, rest_of, stop_at as stop_of};
 ghost use Rattle.break_rule.specs.Kept.{past_item as past_an_item, from_item as from_an_item};
 ghost use Rattle.break_rule.specs.Over.{IsOver, IsItemOver};
 
-use crate::adding::item_sums;
+use crate::adding::{glyph_sums, item_sums};
 use crate::ends::{Before, Rest};
-use crate::margin::{Side, Stop, item_margin};
+use crate::margin::{Side, Stop, glyph_hang, item_margin};
 use crate::places::is_discardable;
 use crate::sums::Sums;
 use font_stock::Stock;
@@ -115,9 +117,38 @@ fn past_item(stock: &Stock, item: &Item, place: u32, before: Before) -> Before
     ensures own { IsWithin (unbroken_weight item.now) (sums_of stock.now item.now) }
     ensures hang { IsHang result.behind.hang }
 {
-    let sums = before.sums.plus(&item_sums(stock, item));
-    let behind = stop_at(place, item_margin(Side::Right, stock, item), before.behind);
-    Before { sums, behind }
+    match item {
+        Item::Char { font, code } => past_glyph(stock, *font, *code, place, before),
+        Item::Lig { font, code, .. } => past_glyph(stock, *font, *code, place, before),
+        Item::Glue { glue } => Before {
+            sums: before.sums.plus(&Sums::of_glue(*glue)),
+            behind: Stop { at: place, hang: 0 },
+        },
+        _ => Before {
+            sums: before.sums.plus(&item_sums(stock, item)),
+            behind: stop_at(place, item_margin(Side::Right, stock, item), before.behind),
+        },
+    }
+}
+
+/// What lies before a place behind a glyph of a font.
+#[inline(always)]
+fn past_glyph(stock: &Stock, font: u32, code: u8, place: u32, before: Before) -> Before
+    requires font { font < length stock.now }
+    requires small { IsSmallBefore before }
+    ensures sums { result.sums ≡ plus before.sums (sums_of_glyph stock.now font code) }
+    ensures at { result.behind.at ≡ place }
+    ensures hang { result.behind.hang ≡ hang_of_glyph Right stock.now font code }
+    ensures own { IsWithin 1 (sums_of_glyph stock.now font code) }
+    ensures small { IsHang result.behind.hang }
+{
+    Before {
+        sums: before.sums.plus(&glyph_sums(stock, font, code)),
+        behind: Stop {
+            at: place,
+            hang: glyph_hang(Side::Right, stock, font, code),
+        },
+    }
 }
 
 /// What lies from a place on, by the item there and what lies behind it.
@@ -127,13 +158,40 @@ fn from_item(stock: &Stock, item: &Item, place: u32, rest: Rest) -> Rest
     ensures exact { result ≡ from_an_item stock.now item.now place rest }
     ensures hang { IsSmallRest result }
 {
-    let begin = if is_discardable(item) {
-        rest.begin
-    } else {
-        place
-    };
-    let ahead = stop_at(place, item_margin(Side::Left, stock, item), rest.ahead);
-    Rest { begin, ahead }
+    match item {
+        Item::Char { font, code } => from_glyph(stock, *font, *code, place),
+        Item::Lig { font, code, .. } => from_glyph(stock, *font, *code, place),
+        Item::Glue { .. } => Rest {
+            begin: rest.begin,
+            ahead: Stop { at: place, hang: 0 },
+        },
+        _ => Rest {
+            begin: if is_discardable(item) {
+                rest.begin
+            } else {
+                place
+            },
+            ahead: stop_at(place, item_margin(Side::Left, stock, item), rest.ahead),
+        },
+    }
+}
+
+/// What lies from a glyph of a font on.
+#[inline(always)]
+fn from_glyph(stock: &Stock, font: u32, code: u8, place: u32) -> Rest
+    requires { font < length stock.now }
+    ensures begin { result.begin ≡ place }
+    ensures at { result.ahead.at ≡ place }
+    ensures hang { result.ahead.hang ≡ hang_of_glyph Left stock.now font code }
+    ensures small { IsSmallRest result }
+{
+    Rest {
+        begin: place,
+        ahead: Stop {
+            at: place,
+            hang: glyph_hang(Side::Left, stock, font, code),
+        },
+    }
 }
 
 /// The stop at a place, where there is a hang, or else another.

@@ -25,6 +25,7 @@ pub struct Sums {
 
 impl Sums {
     /// What nothing adds.
+    #[inline(always)]
     pub fn nothing() -> Sums
         ensures exact { result ≡ nothing }
         ensures small { IsWithin 0 result }
@@ -33,6 +34,7 @@ impl Sums {
     }
 
     /// What a width adds that neither stretches nor shrinks.
+    #[inline(always)]
     pub fn rigid(width: Sp) -> Sums
         ensures exact { result ≡ rigid_sums width }
         ensures small { IsWithin 1 result }
@@ -51,6 +53,7 @@ impl Sums {
 
     /// What a glue adds.
     #[tactic(auto, unfolding(crate::specs::Adding::sums_of_glue))]
+    #[inline(always)]
     pub fn of_glue(glue: Glue) -> Sums
         ensures exact { result ≡ sums_of_glue glue }
         ensures small { IsWithin 1 result }
@@ -69,6 +72,7 @@ impl Sums {
 
     /// Both together.
     #[tactic(auto, unfolding(crate::specs::Adding::plus))]
+    #[inline(always)]
     pub fn plus(&self, other: &Sums) -> Sums
         requires own { IsWithin (2 ^ 20) self.now }
         requires other { IsWithin (2 ^ 20) other.now }
@@ -88,6 +92,7 @@ impl Sums {
 
     /// What is left of these when others are taken away.
     #[tactic(auto, unfolding(crate::specs::Adding::minus))]
+    #[inline(always)]
     pub fn minus(&self, other: &Sums) -> Sums
         requires own { IsWithin (2 ^ 20) self.now }
         requires other { IsWithin (2 ^ 20) other.now }

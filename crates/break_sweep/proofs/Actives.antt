@@ -3,7 +3,7 @@
 --     living_ascend, new_ascend, apart_at     the nodes that live on and the new ones, in order and apart
 --     new_nodes_are          which of the recorded lines become nodes
 --     active_more            the list after a place
-use Rattle.std.proofs.Common.{◌≡◌, ◌≢◌, ℕ, zero, suc, ◌+◌, ◌<◌, ◌≤◌, ◌^◌, Bool, true, false, cond, not, ◌&&◌, ℤ, pos, ◌≤ℤ◌, List, [], ◌∷◌, ◌++◌, map, filter, length, Option, Some, None, refl, sym, ap, ◌∙◌, subst, inl, inr, add-one, arith}
+use Rattle.std.proofs.Common.{◌≡◌, ◌≢◌, ℕ, zero, suc, ◌+◌, ◌<◌, ◌≤◌, ◌^◌, Bool, true, false, cond, not, ◌&&◌, pos, List, [], ◌∷◌, map, filter, length, Option, Some, None, refl, sym, ap, ◌∙◌, subst, inl, inr, add-one, arith}
 use Rattle.std.specs.Prelude.{◌-◌, int_le}
 use Rattle.std.specs.List.{list_all, fold, All}
 use Rattle.std.proofs.lemmas.List.Elements.{All-nil, All-cons, All-head, All-tail}
@@ -13,7 +13,7 @@ use Rattle.line_break.specs.declared.node.Node.{Node}
 use Rattle.line_break.specs.declared.node.Way.{Way}
 use Rattle.line_break.specs.Members.{Among, Ascends}
 use Rattle.line_break.specs.Pass.{Pass, group_of_line, order}
-use Rattle.line_break.specs.Ways.{start, dies, stands, ways, open_ways, open_to, awful_bad}
+use Rattle.line_break.specs.Ways.{start, dies, stands, ways, open_to, awful_bad}
 use Rattle.line_break.specs.Sweep.{tried, put, kept, new_nodes, after_place, active}
 use Rattle.line_break.proofs.MemberLemmas.{Among-passes}
 use Rattle.line_break.proofs.OrderLemmas.{order_same}
@@ -24,8 +24,8 @@ use Rattle.line_break.proofs.PutNodes.{ascends_filter, puts_ascend}
 use Rattle.line_break.proofs.TriedNodes.{by_node}
 use Rattle.break_sweep.specs.Costs.{IsAmount}
 use Rattle.break_sweep.specs.declared.made.Made.{Made}
-use Rattle.break_sweep.specs.Made.{way_of, ways_of, listed, IsNear, IsFound, AreActive}
-use Rattle.break_sweep.specs.Standing.{is_good_line, is_made}
+use Rattle.break_sweep.specs.Made.{way_of, ways_of, listed, IsNear, AreActive}
+use Rattle.break_sweep.specs.Standing.{is_made}
 
 pub all_among : {X : Type 0} (P : X → Type 0) (xs : List X) → ((x : X) → Among xs x → P x) → All P xs
 all_among P [] h = All-nil P

@@ -4,11 +4,10 @@
 use Rattle.std.proofs.Common.{◌≡◌, ◌≢◌, ℕ, zero, suc, ◌+◌, ◌-◌, ◌<◌, ◌≤◌, false, List, [], ◌∷◌, ◌++◌, map, length, get_or, take, drop, Option, pos, refl, sym, ap, ◌∙◌, subst, inl, inr, ⊎_elim, arith}
 use Rattle.std.specs.Prelude.{◌⊎◌}
 use Rattle.std.specs.List.{fold, All}
-use Rattle.std.proofs.lemmas.List.{map-append, take-map, drop-map, drop_more, length-drop}
+use Rattle.std.proofs.lemmas.List.{map-append, take-map, drop-map, drop_more}
 use Rattle.std.proofs.lemmas.Bool.Decides.{nat_tests}
 use Rattle.std.specs.declared.cmp.Ordering.{Ordering}
 use Rattle.std.specs.declared.cmp.Ordering.TheVariants.{Less, Equal, Greater}
-use Rattle.line_break.specs.declared.node.Node.{Node}
 use Rattle.line_break.specs.declared.node.Way.{Way}
 use Rattle.line_break.specs.Members.{Among, Ascends}
 use Rattle.line_break.specs.Pass.{Pass, order}

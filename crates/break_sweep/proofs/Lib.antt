@@ -5,3 +5,4 @@ pub mod Actives
 pub mod Joins
 pub mod Places
 pub mod Choices
+pub mod EndedSweeps

@@ -3,13 +3,12 @@
 --     read_last, read_total     the way at an index has the node there
 --     ways_more                 nodes made later leave the earlier ways alone
 --     listed_more, listed_at    the ways of indices
-use Rattle.std.proofs.Common.{◌≡◌, ℕ, zero, suc, ◌+◌, ◌<◌, ◌≤◌, ℤ, List, [], ◌∷◌, ◌++◌, map, length, get_or, drop, Option, Some, None, refl, sym, ap, ◌∙◌, append_assoc, arith}
+use Rattle.std.proofs.Common.{◌≡◌, ℕ, zero, suc, ◌+◌, ◌<◌, List, [], ◌∷◌, ◌++◌, map, length, get_or, drop, Option, Some, refl, sym, ap, ◌∙◌, append_assoc, arith}
 use Rattle.std.specs.List.{fold, slice_get, All}
-use Rattle.std.proofs.lemmas.List.{append-nil, length-append, length_push, length-map, map_push, get_or-map, get_or_append_left, drop_at, map-append}
+use Rattle.std.proofs.lemmas.List.{append-nil, length_push, length-map, map_push, get_or-map, get_or_append_left, drop_at, map-append}
 use Rattle.std.proofs.lemmas.List.Sums.{fold-append}
 use Rattle.std.proofs.lemmas.List.Elements.{All-head, All-tail}
 use Rattle.std.proofs.lemmas.Option.{slice_get-get_or}
-use Rattle.line_break.specs.declared.node.Node.{Node}
 use Rattle.line_break.specs.declared.node.Way.{Way}
 use Rattle.break_sweep.specs.declared.made.Made.{Made}
 use Rattle.break_sweep.specs.Made.{nodes_of, way_of, and_way, ways_of, no_way, way_at, listed}

@@ -1,7 +1,7 @@
 -- From a place to the next one.
 --     Stepped                what trying and making leave
 --     to_join, joined        the new nodes can be put among the others, and the list is then that after the place
-use Rattle.std.proofs.Common.{◌≡◌, ◌≢◌, ℕ, suc, ◌+◌, ◌<◌, ◌^◌, true, List, ◌++◌, map, filter, length, drop, Option, refl, sym, ap, ◌∙◌, subst, add-one}
+use Rattle.std.proofs.Common.{◌≡◌, ◌≢◌, ℕ, suc, ◌+◌, ◌<◌, true, List, ◌++◌, map, filter, length, drop, Option, sym, ap, ◌∙◌, subst, add-one}
 use Rattle.std.specs.List.{All, fold}
 use Rattle.std.proofs.lemmas.List.Elements.{All-filter, All-weaker}
 use Rattle.std.specs.declared.cmp.Ordering.TheVariants.{Equal}

@@ -1,6 +1,6 @@
 -- When new nodes can be put into a list of active nodes by their places.
 --     IsToJoin               two lists of ways in the order of nodes, with no node in both
-use Rattle.std.specs.Prelude.{◌≡◌, ◌≢◌, ℕ, List, Option}
+use Rattle.std.specs.Prelude.{◌≢◌, ℕ, List, Option}
 use Rattle.std.specs.declared.cmp.Ordering.TheVariants.{Equal}
 use Rattle.line_break.specs.declared.node.Way.{Way}
 use Rattle.line_break.specs.Members.{Among, Ascends}

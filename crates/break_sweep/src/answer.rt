@@ -45,6 +45,10 @@ impl ActiveNodes {
     {
         let mut arrays = Arrays::start(alloc, lines.open_ended())?;
         for place in 0..lines.places() {
+            if arrays.active.is_empty() {
+                // no node is made where there is none
+                break;
+            }
             arrays.after_place(lines, place)?;
         }
         let Arrays { nodes, active, .. } = arrays;

@@ -1,101 +1,21 @@
 //! Jobs in a font whose characters are all half a size wide, and how their last paragraphs are
 //! broken.
-ghost use Rattle.std.specs.Prelude.{◌<◌, ◌^◌, All, IfOk, IsTrue, false, length, unsigned_abs};
-ghost use Rattle.font_stock.specs.Sizes.{IsSize};
+ghost use Rattle.std.specs.Prelude.{All, IfOk, false};
 ghost use Rattle.hlist.specs.Bounds.{IsInBounds, IsListOf, IsSmall};
 ghost use Rattle.break_rule.specs.Made.{IsPlace};
-ghost use Rattle.hlist_build.specs.Parts.{NamesFont};
 ghost use Rattle.break_rule.specs.Over.{Share};
 
-use font_stock::{Font, Stock};
+use font_stock::Stock;
 use hlist::HList;
 use hlist_build::build;
-use job_text::{FontDecl, Job, read_job};
+use job_text::Job;
 use liang_hyph::Patterns;
-use micro_num::{Par, Params, Part, PartAt, ShapeLine, Tables};
+use micro_num::{Par, Tables};
 use paragraph_breaks::{Broken, breaks};
 use std::alloc::{AllocError, Global};
 use std::test::Fail;
-use tfm_read::{Tfm, TfmFault, read_tfm};
-
-/// The metrics of a font of the codes 33 to 126, each half a design size of 10 points wide and
-/// high, with a space of a quarter of it.
-fn metrics(alloc: Global) -> Result<Tfm, TfmFault> {
-    let mut words: Vec<u32> = vec![in alloc;
-        115 << 16 | 2,
-        33 << 16 | 126,
-        2 << 16 | 2,
-        1 << 16 | 1,
-        0,
-        7,
-        0,
-        10485760,
-    ]?;
-    for _ in 33..127 {
-        words.push(0x01100000)?;
-    }
-    words.extend_from_slice(&[0, 524288, 0, 524288, 0, 0])?;
-    words.extend_from_slice(&[0, 262144, 131072, 65536, 524288, 1048576, 0])?;
-    let mut bytes = Vec::new(alloc);
-    for word in &words {
-        bytes.extend_from_slice(&word.to_be_bytes())?;
-    }
-    read_tfm(alloc, &bytes)
-}
-
-/// The fonts that a job declares, all of these metrics.
-fn stock_of(alloc: Global, decls: Vec<FontDecl>) -> Result<Stock, Fail>
-    requires { All (λ font. IsSize font.size) decls.items }
-{
-    let mut fonts = Vec::new(alloc);
-    for decl in decls {
-        let FontDecl {
-            name: _,
-            size,
-            codes,
-            expand,
-        } = decl;
-        fonts.push(Font::at(alloc, metrics(alloc)?, size, codes, expand)?)?;
-    }
-    if fonts.len() > 32 {
-        return Err(Fail::new(format_args!("more than 32 fonts")));
-    }
-    Ok(Stock::make(fonts))
-}
-
-/// Whether a part names a font of the stock, if it names one.
-fn names_font(stock: &Stock, part: &Part) -> bool
-    ensures { IsTrue result → NamesFont (length stock.now) part.now }
-{
-    match part {
-        Part::Font { font } => *font < stock.count(),
-        _ => true,
-    }
-}
-
-/// Whether each part names a font of the stock, if it names one.
-pub(crate) fn name_fonts(stock: &Stock, parts: &[PartAt]) -> bool
-    ensures { IsTrue result → All (λ one. NamesFont (length stock.now) one.part) parts.now }
-{
-    for one in parts {
-        if !names_font(stock, &one.part) {
-            return false;
-        }
-    }
-    true
-}
-
-/// Whether lines and what they hang by are shorter than 2^30 sp, and a shape than 2^32 lines.
-pub(crate) fn are_within(params: &Params, shape: &[ShapeLine]) -> bool
-    ensures hsize { IsTrue result → unsigned_abs params.now.hsize < 2 ^ 30 }
-    ensures hangindent { IsTrue result → unsigned_abs params.now.hangindent < 2 ^ 30 }
-    ensures shape { IsTrue result → length shape.now < 2 ^ 32 }
-{
-    let hsize = params.hsize.unsigned_abs() < 1 << 30;
-    let hangindent = params.hangindent.unsigned_abs() < 1 << 30;
-    let short = shape.len() < 1 << 32;
-    hsize & hangindent & short
-}
+use test_fonts::tiny10;
+use test_jobs::{Document, are_within, name_fonts, read_document};
 
 /// How the list of a paragraph is broken.
 pub(crate) fn broken_list(
@@ -166,18 +86,18 @@ pub(crate) struct Sample {
 /// The paragraph of such a job.
 pub(crate) fn read_sample(alloc: Global, settings: &[u8], text: &[u8]) -> Result<Sample, Fail> {
     let bytes = job(alloc, settings, text)?;
-    if bytes.len() >= 1 << 32 {
-        return Err(Fail::new(format_args!("a long job")));
-    }
-    let Job {
-        fonts,
-        tables,
+    let Document {
+        job,
         patterns,
-        exceptions,
+        stock,
+    } = read_document(alloc, &bytes, &tiny10(alloc)?)?;
+    let Job {
+        fonts: _,
+        tables,
+        patterns: _,
+        exceptions: _,
         pars,
-    } = read_job(alloc, &bytes)?;
-    let stock = stock_of(alloc, fonts.into_vec())?;
-    let patterns = Patterns::make(alloc, patterns.as_slice(), exceptions.as_slice())?;
+    } = job;
     let mut pars = pars.into_vec();
     match pars.pop() {
         Some(par) => Ok(Sample {

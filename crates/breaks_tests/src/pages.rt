@@ -4,7 +4,7 @@ ghost use Rattle.micro_num.specs.Shape.{IsShapeLine};
 ghost use Rattle.hlist_build.specs.Parts.{NamesFont};
 ghost use Rattle.para_workers.specs.Lengths.{HasLengths};
 
-use crate::fixture::{Sample, are_within, name_fonts, read_sample};
+use crate::fixture::{Sample, read_sample};
 use font_stock::Stock;
 use hlist_build::ParFault;
 use hpack_two::bases_of;
@@ -14,6 +14,7 @@ use micro_num::{Par, ShapeLine, Sp, Tables};
 use para_workers::set_par;
 use std::alloc::Global;
 use std::test::Fail;
+use test_jobs::{are_within, name_fonts};
 
 /// Whether a line of a shape is shorter than 2^30 sp, and its indent.
 fn is_short(line: ShapeLine) -> bool

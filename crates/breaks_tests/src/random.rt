@@ -5,7 +5,7 @@ ghost use Rattle.hlist.specs.Bounds.{IsSmall, IsListOf};
 ghost use Rattle.break_rule.specs.Made.{IsFrom, IsPlace};
 ghost use Rattle.break_rule.specs.Over.{Share};
 
-use crate::fixture::{Sample, are_within, broken_list, name_fonts, read_sample};
+use crate::fixture::{Sample, broken_list, read_sample};
 use break_pass::{BreakKind, LegalPlace, line_demerits};
 use break_rule::{BreakRule, From, LineFit};
 use font_stock::Stock;
@@ -16,6 +16,7 @@ use list_fonts::lists_of_a_stock_are_over_it;
 use micro_num::{Par, Tables};
 use std::alloc::{AllocError, Global};
 use std::test::Fail;
+use test_jobs::{are_within, name_fonts};
 
 /// The badness of a line that is too long.
 const OVERFULL: u16 = 10001;

@@ -1,5 +1,5 @@
 //! The legal places of a list, and what the lines between them measure and how they fit, printed.
-ghost use Rattle.std.specs.Prelude.{◌≡◌, ◌<◌, ◌≤◌, ◌^◌, All, false, unsigned_abs};
+ghost use Rattle.std.specs.Prelude.{◌≤◌, All};
 ghost use Rattle.hlist.specs.Bounds.{IsInBounds, IsListOf};
 ghost use Rattle.break_rule.specs.Made.{IsPlace, IsFrom};
 ghost use Rattle.break_rule.specs.Over.{Share};
@@ -8,8 +8,9 @@ use break_rule::{BreakRule, From, LineFit, Measure};
 use font_stock::Stock;
 use hlist::HList;
 use list_fonts::lists_of_a_stock_are_over_it;
-use micro_num::{NoMemory, Par, Sp};
+use micro_num::{NoMemory, Par};
 use std::alloc::{AllocError, Global};
+use test_jobs::is_past;
 
 /// How many lines are shown at most.
 const SHOWN: u64 = 30;
@@ -52,13 +53,6 @@ pub fn fits_text(
         Ok(rule) => Ok(Some(rule_text(alloc, &rule, lines.number)?)),
         Err(NoMemory) => Err(AllocError),
     }
-}
-
-/// Whether a length is out of bounds.
-fn is_past(length: Sp) -> bool
-    ensures { result ≡ false → unsigned_abs length < 2 ^ 30 }
-{
-    length.unsigned_abs() >= 1 << 30
 }
 
 fn rule_text(alloc: Global, rule: &BreakRule, number: u32) -> Result<String, AllocError>

@@ -1,10 +1,9 @@
 //! The cases of horizontal lists and of hyphenated lists: the list of each paragraph of a job, or
 //! its first fault; the cases of fits, which ask about the lines of these lists; and the cases of
 //! breaks and of lines, which ask how they are broken, and packed.
-ghost use Rattle.std.specs.Prelude.{◌<◌, ◌^◌, All, IsTrue, length};
+ghost use Rattle.std.specs.Prelude.{All};
 ghost use Rattle.font_stock.specs.Sizes.{IsSize};
 ghost use Rattle.hlist.specs.Bounds.{IsSmall, IsInBounds, IsListOf};
-ghost use Rattle.hlist_build.specs.Parts.{NamesFont};
 ghost use Rattle.break_rule.specs.Over.{Share};
 
 use crate::breaks_text::breaks_text;
@@ -20,9 +19,10 @@ use hlist_hyph::hyphenated;
 use job_text::{FontDecl, Job, JobFault};
 use liang_hyph::Patterns;
 use list_fonts::{fonts_of_a_paragraph_expand_alike, lists_of_the_same_fonts_expand_alike};
-use micro_num::{NoMemory, Par, Part, PartAt, Tables};
+use micro_num::{NoMemory, Par, Tables};
 use std::alloc::{AllocError, Global};
 use std::rt::Files;
+use test_jobs::name_fonts;
 use tfm_read::{TfmFault, read_tfm};
 
 /// Which lists a case is about.
@@ -221,28 +221,6 @@ fn lists_text(
         text.push_str(list.as_str())?;
     }
     Ok(Some(text))
-}
-
-/// Whether a part names a font of the stock, if it names one.
-fn names_font(stock: &Stock, part: &Part) -> bool
-    ensures { IsTrue result → NamesFont (length stock.now) part.now }
-{
-    match part {
-        Part::Font { font } => *font < stock.count(),
-        _ => true,
-    }
-}
-
-/// Whether each part names a font of the stock, if it names one.
-pub fn name_fonts(stock: &Stock, parts: &[PartAt]) -> bool
-    ensures { IsTrue result → All (λ one. NamesFont (length stock.now) one.part) parts.now }
-{
-    for one in parts {
-        if !names_font(stock, &one.part) {
-            return false;
-        }
-    }
-    true
 }
 
 /// The items of a list, or what is asked of its lines.

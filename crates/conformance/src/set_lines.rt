@@ -7,8 +7,7 @@ ghost use Rattle.break_rule.specs.Made.{IsPlace, IsFrom};
 ghost use Rattle.break_rule.specs.Over.{Share};
 ghost use Rattle.hpack_two.specs.Over.{base_of};
 
-use crate::breaks_text::are_within;
-use crate::lists::{fault_text, name_fonts};
+use crate::lists::fault_text;
 use break_rule::{BreakRule, From};
 use font_stock::Stock;
 use hlist::HList;
@@ -20,6 +19,7 @@ use list_fonts::{fonts_of_a_paragraph_expand_alike, lists_of_a_stock_are_over_it
 use micro_num::{NoMemory, Par, ShapeLine, Tables, shape_line};
 use paragraph_breaks::breaks;
 use std::alloc::{AllocError, Global};
+use test_jobs::{are_within, name_fonts};
 
 /// What is told so far, and whether a line was refused.
 #[derive(Drop)]

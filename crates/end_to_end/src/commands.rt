@@ -1,23 +1,8 @@
 //! What each command writes and tells.
-use crate::runs::{Failing, Run, SOUND, run_words};
-use crate::samples::{EXPANDED, FOUR_WORDS, HYPHENATED};
+use crate::runs::{Failing, SET, SOUND, run_tiny};
 use pdfmicro_run::Answer;
-use std::alloc::Global;
 use std::test::Fail;
-use std::thread::Threads;
-use test_fonts::tiny10;
-
-/// Runs the words behind the program's name, over the job in the font `tiny10`.
-fn run<R: Threads + Sync>(
-    rt: &R,
-    alloc: Global,
-    words: &[&str],
-    job: &[u8],
-    failing: &Failing,
-) -> Result<Run, Fail> {
-    let font = tiny10(alloc)?;
-    run_words(rt, alloc, words, job, font.as_slice(), failing)
-}
+use test_jobs::{EXPANDED, FOUR_WORDS, HYPHENATED};
 
 #[test]
 fn other_words_are_bad(rt: HostRuntime) -> Result<(), Fail> {
@@ -39,7 +24,7 @@ fn other_words_are_bad(rt: HostRuntime) -> Result<(), Fail> {
         &[],
     ];
     for words in words {
-        let run = run(&rt, rt.alloc(), words, EXPANDED, &failing)?;
+        let run = run_tiny(&rt, rt.alloc(), words, EXPANDED, &failing)?;
         assert_eq!(rt; run.answer, Answer::BadWords);
         assert_eq!(rt; run.status, 2);
         assert_eq!(rt; run.told(), "pdfmicro: bad words\n");
@@ -55,7 +40,7 @@ fn a_report_stands_behind_the_file(rt: HostRuntime) -> Result<(), Fail> {
         (&["pdfmicro", "--report", "--workers=8", "set", "j"], report),
         (&["pdfmicro", "set", "j"], ""),
     ] {
-        let run = run(&rt, rt.alloc(), words, EXPANDED, &SOUND)?;
+        let run = run_tiny(&rt, rt.alloc(), words, EXPANDED, &SOUND)?;
         assert_eq!(rt; run.answer, Answer::Done);
         assert_eq!(rt; run.written.len(), 240);
         assert_eq!(rt; run.told(), told);
@@ -71,7 +56,7 @@ fn a_paragraph_is_told_with_its_breaks(rt: HostRuntime) -> Result<(), Fail> {
         (FOUR_WORDS, "paragraph 1 pass 2 total 43124 breaks 5 13\n"),
         (HYPHENATED, "paragraph 1 pass 2 total 2600 breaks 5 10\n"),
     ] {
-        let run = run(&rt, rt.alloc(), &words, job, &SOUND)?;
+        let run = run_tiny(&rt, rt.alloc(), &words, job, &SOUND)?;
         assert_eq!(rt; run.answer, Answer::Done);
         assert_eq!(rt; run.told(), line);
         assert_eq!(rt; run.written.len(), 0);
@@ -83,7 +68,7 @@ fn a_paragraph_is_told_with_its_breaks(rt: HostRuntime) -> Result<(), Fail> {
 #[test]
 fn no_line_is_told_before_all_are_broken(rt: HostRuntime) -> Result<(), Fail> {
     let job = b"\\font\\f=tiny10 \\f\na\n\n\\char200 a\n\na\n";
-    let run = run(&rt, rt.alloc(), &["pdfmicro", "breaks", "j"], job, &SOUND)?;
+    let run = run_tiny(&rt, rt.alloc(), &["pdfmicro", "breaks", "j"], job, &SOUND)?;
     assert_eq!(rt; run.status, 1);
     assert_eq!(rt; run.told(), "pdfmicro: paragraph 2: fault 1 at 21\n");
     Ok(())
@@ -92,9 +77,9 @@ fn no_line_is_told_before_all_are_broken(rt: HostRuntime) -> Result<(), Fail> {
 #[test]
 fn a_line_that_is_out_of_range_is_broken(rt: HostRuntime) -> Result<(), Fail> {
     let job = b"\\font\\f=tiny10 \\f\n\\hsize=100pt\n\\noindent \\kern1073741823sp a\n";
-    let told = run(&rt, rt.alloc(), &["pdfmicro", "breaks", "j"], job, &SOUND)?;
+    let told = run_tiny(&rt, rt.alloc(), &["pdfmicro", "breaks", "j"], job, &SOUND)?;
     assert_eq!(rt; told.answer, Answer::Done);
-    let set = run(&rt, rt.alloc(), &["pdfmicro", "set", "j"], job, &SOUND)?;
+    let set = run_tiny(&rt, rt.alloc(), SET, job, &SOUND)?;
     assert_eq!(rt; set.told(), "pdfmicro: paragraph 1: fault 5 at 1\n");
     Ok(())
 }
@@ -105,7 +90,7 @@ fn a_job_without_paragraphs_has_no_lines(rt: HostRuntime) -> Result<(), Fail> {
         lines: &[1],
         ..SOUND
     };
-    let run = run(&rt, rt.alloc(), &["pdfmicro", "breaks", "j"], b"", &failing)?;
+    let run = run_tiny(&rt, rt.alloc(), &["pdfmicro", "breaks", "j"], b"", &failing)?;
     assert_eq!(rt; run.answer, Answer::Done);
     assert_eq!(rt; run.told(), "");
     Ok(())
@@ -118,13 +103,13 @@ fn a_generated_document_is_reported_and_not_written(rt: HostRuntime) -> Result<(
         writes: &[1],
         ..SOUND
     };
-    let first = run(&rt, rt.alloc(), &["pdfmicro", "gen", "20"], b"", &failing)?;
+    let first = run_tiny(&rt, rt.alloc(), &["pdfmicro", "gen", "20"], b"", &failing)?;
     assert_eq!(rt; first.answer, Answer::Done);
     assert_eq!(rt; first.written.len(), 0);
     assert!(rt; first.told().starts_with("paragraphs 20\nlines "));
     for workers in ["3", "8"] {
         let words = ["pdfmicro", "gen", "20", "--workers", workers];
-        let again = run(&rt, rt.alloc(), &words, b"", &failing)?;
+        let again = run_tiny(&rt, rt.alloc(), &words, b"", &failing)?;
         assert_eq!(rt; again.told(), first.told());
         assert_eq!(rt; again.owners().len(), first.owners().len());
     }

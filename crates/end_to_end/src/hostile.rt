@@ -1,34 +1,21 @@
 //! Jobs that are cut, as long as a file may be, or past every size; and an outside that fails at
 //! each of its calls in turn.
-use crate::runs::{Failing, Run, SOUND, run_words, set};
-use crate::samples::{EXPANDED, THREE_LETTERS};
+use crate::runs::{Failing, SET, SOUND, run_tiny, set};
 use pdfmicro_run::Answer;
 use std::alloc::{AllocError, Global};
 use std::test::Fail;
-use std::thread::Threads;
-use test_fonts::{loop10, tiny10};
+use test_fonts::loop10;
+use test_jobs::{EXPANDED, THREE_LETTERS};
 
 /// Two paragraphs of three letters in two fonts, which are read from one file.
 const TWO_FONTS: &[u8] = b"\\font\\f=tiny10 \\font\\g=tiny10 at 12pt \\f\n\\hsize=100pt\n\
     \\noindent abc\n\n\\noindent \\g abc\n";
 
-/// Runs the words over the job in the font `tiny10`.
-fn run<R: Threads + Sync>(
-    rt: &R,
-    alloc: Global,
-    words: &[&str],
-    job: &[u8],
-    failing: &Failing,
-) -> Result<Run, Fail> {
-    let font = tiny10(alloc)?;
-    run_words(rt, alloc, words, job, font.as_slice(), failing)
-}
-
 #[test]
 fn a_cut_job_is_set_or_refused(rt: HostRuntime) -> Result<(), Fail> {
     for length in 0..EXPANDED.len() {
         let job = EXPANDED.get(..length).ok_or("no job")?;
-        let run = run(&rt, rt.alloc(), &["pdfmicro", "set", "j"], job, &SOUND)?;
+        let run = run_tiny(&rt, rt.alloc(), SET, job, &SOUND)?;
         assert!(rt; [0, 1, 3].contains(&run.status));
         let is_refused = run.status != 0;
         assert_eq!(rt; run.written.is_empty(), is_refused);
@@ -49,12 +36,11 @@ fn spaces(alloc: Global) -> Result<Vec<u8>, AllocError> {
 #[test]
 fn a_file_may_have_16_megabytes(rt: HostRuntime) -> Result<(), Fail> {
     let mut job = spaces(rt.alloc())?;
-    let words = ["pdfmicro", "set", "j"];
-    let longest = run(&rt, rt.alloc(), &words, job.as_slice(), &SOUND)?;
+    let longest = run_tiny(&rt, rt.alloc(), SET, job.as_slice(), &SOUND)?;
     assert_eq!(rt; longest.answer, Answer::Done);
     assert_eq!(rt; longest.written.len(), 72);
     job.push(b' ')?;
-    let longer = run(&rt, rt.alloc(), &words, job.as_slice(), &SOUND)?;
+    let longer = run_tiny(&rt, rt.alloc(), SET, job.as_slice(), &SOUND)?;
     assert_eq!(rt; longer.answer, Answer::FileTooLong { file: 0 });
     assert_eq!(rt; longer.status, 8);
     assert_eq!(rt; longer.told(), "pdfmicro: j: too long\n");
@@ -74,13 +60,12 @@ fn a_font_whose_programs_do_not_end_is_told(rt: HostRuntime) -> Result<(), Fail>
 #[test]
 fn the_least_width_is_set(rt: HostRuntime) -> Result<(), Fail> {
     let job = b"\\font\\f=tiny10 \\f\n\\hsize=-16383pt\n\\noindent abc\n";
-    let words = ["pdfmicro", "set", "j"];
-    let file = run(&rt, rt.alloc(), &words, job, &SOUND)?;
+    let file = run_tiny(&rt, rt.alloc(), SET, job, &SOUND)?;
     assert_eq!(rt; file.answer, Answer::Done);
     assert_eq!(rt; file.written.len(), 172);
     // The greatest width of the pages, in the postamble.
     assert_eq!(rt; file.written.get(130..134), Some([0, 0, 0, 0].as_slice()));
-    let told = run(&rt, rt.alloc(), &["pdfmicro", "breaks", "j"], job, &SOUND)?;
+    let told = run_tiny(&rt, rt.alloc(), &["pdfmicro", "breaks", "j"], job, &SOUND)?;
     assert_eq!(rt; told.told(), "paragraph 1 pass 2 total 0 breaks 5\n");
     Ok(())
 }
@@ -88,8 +73,7 @@ fn the_least_width_is_set(rt: HostRuntime) -> Result<(), Fail> {
 #[test]
 fn a_line_past_every_page_is_told(rt: HostRuntime) -> Result<(), Fail> {
     let job = b"\\font\\f=tiny10 \\f\n\\leftskip=16383.99999pt\n\\noindent abc\n";
-    let words = ["pdfmicro", "set", "j"];
-    let run = run(&rt, rt.alloc(), &words, job, &SOUND)?;
+    let run = run_tiny(&rt, rt.alloc(), SET, job, &SOUND)?;
     assert_eq!(rt; run.status, 1);
     assert_eq!(rt; run.told(), "pdfmicro: paragraph 1: fault 5 at 1\n");
     Ok(())
@@ -107,7 +91,7 @@ fn each_read_may_fail(rt: HostRuntime) -> Result<(), Fail> {
                 reads: &[read as u64 + 1],
                 ..SOUND
             };
-            let run = run(&rt, rt.alloc(), words, job, &failing)?;
+            let run = run_tiny(&rt, rt.alloc(), words, job, &failing)?;
             assert_eq!(rt; run.answer, Answer::ReadFault { file: read });
             assert_eq!(rt; run.written.len(), 0);
         }
@@ -124,7 +108,7 @@ fn each_text_may_fail(rt: HostRuntime) -> Result<(), Fail> {
             ..SOUND
         };
         let words = ["pdfmicro", "breaks", "j"];
-        let run = run(&rt, rt.alloc(), &words, TWO_FONTS, &failing)?;
+        let run = run_tiny(&rt, rt.alloc(), &words, TWO_FONTS, &failing)?;
         assert_eq!(rt; run.answer, Answer::TalkFault);
         assert_eq!(rt; run.told(), told);
     }
@@ -133,10 +117,10 @@ fn each_text_may_fail(rt: HostRuntime) -> Result<(), Fail> {
         ..SOUND
     };
     let words = ["pdfmicro", "set", "j", "--report"];
-    let reported = run(&rt, rt.alloc(), &words, EXPANDED, &failing)?;
+    let reported = run_tiny(&rt, rt.alloc(), &words, EXPANDED, &failing)?;
     assert_eq!(rt; reported.answer, Answer::TalkFault);
     assert_eq!(rt; reported.written.len(), 240);
-    let refused = run(&rt, rt.alloc(), &words, b"\\foo", &failing)?;
+    let refused = run_tiny(&rt, rt.alloc(), &words, b"\\foo", &failing)?;
     assert_eq!(rt; refused.status, 1);
     assert_eq!(rt; refused.told(), "");
     Ok(())
@@ -146,8 +130,7 @@ fn each_text_may_fail(rt: HostRuntime) -> Result<(), Fail> {
 fn an_output_without_room_fails(rt: HostRuntime) -> Result<(), Fail> {
     for room in [0, 100, 171] {
         let failing = Failing { room, ..SOUND };
-        let words = ["pdfmicro", "set", "j"];
-        let run = run(&rt, rt.alloc(), &words, THREE_LETTERS, &failing)?;
+        let run = run_tiny(&rt, rt.alloc(), SET, THREE_LETTERS, &failing)?;
         assert_eq!(rt; run.answer, Answer::OutFault);
         assert_eq!(rt; run.told(), "pdfmicro: output failed\n");
     }

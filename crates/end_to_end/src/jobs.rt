@@ -1,6 +1,5 @@
 //! Jobs and their answers.
 use crate::runs::set;
-use crate::samples::{EXPANDED, THREE_LETTERS};
 use hlist_build::ParFault;
 use instance_core::{Cell, Owner};
 use items::Items;
@@ -12,6 +11,7 @@ use std::alloc::Global;
 use std::test::Fail;
 use std::thread::Threads;
 use test_fonts::{ligature10, tiny10};
+use test_jobs::{EXPANDED, THREE_LETTERS};
 use tfm_read::TfmFaultKind;
 
 /// The file of three letters, 172 bytes.

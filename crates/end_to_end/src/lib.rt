@@ -22,8 +22,6 @@ mod outside;
 #[cfg(test)]
 mod runs;
 #[cfg(test)]
-mod samples;
-#[cfg(test)]
 mod tfm_faults;
 #[cfg(test)]
 mod tfm_reads;

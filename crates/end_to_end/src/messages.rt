@@ -1,23 +1,8 @@
 //! The message of each answer.
-use crate::runs::{Failing, Run, SOUND, run_words};
-use crate::samples::THREE_LETTERS;
+use crate::runs::{Failing, SET, SOUND, run_tiny, run_words};
 use pdfmicro_run::Answer;
-use std::alloc::Global;
 use std::test::Fail;
-use std::thread::Threads;
-use test_fonts::tiny10;
-
-/// Sets the job in the font `tiny10`.
-fn set<R: Threads + Sync>(
-    rt: &R,
-    alloc: Global,
-    job: &[u8],
-    failing: &Failing,
-) -> Result<Run, Fail> {
-    let font = tiny10(alloc)?;
-    let words = ["pdfmicro", "set", "j"];
-    run_words(rt, alloc, &words, job, font.as_slice(), failing)
-}
+use test_jobs::THREE_LETTERS;
 
 #[test]
 fn a_fault_has_its_line(rt: HostRuntime) -> Result<(), Fail> {
@@ -40,7 +25,7 @@ fn a_fault_has_its_line(rt: HostRuntime) -> Result<(), Fail> {
         ),
     ];
     for (job, status, line) in cases {
-        let run = set(&rt, rt.alloc(), job, &SOUND)?;
+        let run = run_tiny(&rt, rt.alloc(), SET, job, &SOUND)?;
         assert_eq!(rt; run.status, *status);
         assert_eq!(rt; run.told(), *line);
         assert_eq!(rt; run.written.len(), 0);
@@ -58,7 +43,7 @@ fn a_failed_read_is_told_by_the_name_of_its_file(rt: HostRuntime) -> Result<(), 
             reads: &[read],
             ..SOUND
         };
-        let run = set(&rt, rt.alloc(), THREE_LETTERS, &failing)?;
+        let run = run_tiny(&rt, rt.alloc(), SET, THREE_LETTERS, &failing)?;
         assert_eq!(rt; run.status, 4);
         assert_eq!(rt; run.told(), line);
     }
@@ -80,7 +65,7 @@ fn a_failed_output_is_told(rt: HostRuntime) -> Result<(), Fail> {
         writes: &[1],
         ..SOUND
     };
-    let run = set(&rt, rt.alloc(), THREE_LETTERS, &failing)?;
+    let run = run_tiny(&rt, rt.alloc(), SET, THREE_LETTERS, &failing)?;
     assert_eq!(rt; run.status, 5);
     assert_eq!(rt; run.told(), "pdfmicro: output failed\n");
     Ok(())
@@ -93,7 +78,7 @@ fn a_message_that_fails_changes_no_answer(rt: HostRuntime) -> Result<(), Fail> {
         lines: &[1],
         ..SOUND
     };
-    let run = set(&rt, rt.alloc(), THREE_LETTERS, &failing)?;
+    let run = run_tiny(&rt, rt.alloc(), SET, THREE_LETTERS, &failing)?;
     assert_eq!(rt; run.answer, Answer::OutFault);
     assert_eq!(rt; run.told(), "");
     Ok(())
@@ -105,16 +90,8 @@ fn a_report_that_fails_has_no_line(rt: HostRuntime) -> Result<(), Fail> {
         lines: &[1],
         ..SOUND
     };
-    let font = tiny10(rt.alloc())?;
     let words = ["pdfmicro", "set", "j", "--report"];
-    let run = run_words(
-        &rt,
-        rt.alloc(),
-        &words,
-        THREE_LETTERS,
-        font.as_slice(),
-        &failing,
-    )?;
+    let run = run_tiny(&rt, rt.alloc(), &words, THREE_LETTERS, &failing)?;
     assert_eq!(rt; run.answer, Answer::TalkFault);
     assert_eq!(rt; run.status, 6);
     assert_eq!(rt; run.written.len(), 172);

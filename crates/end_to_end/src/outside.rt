@@ -1,10 +1,9 @@
 //! Runs whose reads and writes fail.
-use crate::runs::{Failing, Run, run_words, set};
+use crate::runs::{Failing, Run, SET, SOUND, run_tiny};
 use pdfmicro_run::Answer;
 use std::alloc::{AllocError, Global};
 use std::test::Fail;
 use std::thread::Threads;
-use test_fonts::tiny10;
 
 /// Four hundred paragraphs of three letters.
 fn many_paragraphs(alloc: Global) -> Result<Vec<u8>, AllocError> {
@@ -24,28 +23,19 @@ fn with_failing<R: Threads + Sync>(
     room: u64,
 ) -> Result<Run, Fail> {
     let job = many_paragraphs(alloc)?;
-    let font = tiny10(alloc)?;
     let failing = Failing {
         reads,
         writes,
         lines: &[],
         room,
     };
-    run_words(
-        rt,
-        alloc,
-        &["pdfmicro", "set", "j"],
-        job.as_slice(),
-        font.as_slice(),
-        &failing,
-    )
+    run_tiny(rt, alloc, SET, job.as_slice(), &failing)
 }
 
 #[test]
 fn many_paragraphs_are_pages_of_their_own(rt: HostRuntime) -> Result<(), Fail> {
     let job = many_paragraphs(rt.alloc())?;
-    let font = tiny10(rt.alloc())?;
-    let run = set(&rt, rt.alloc(), job.as_slice(), font.as_slice())?;
+    let run = run_tiny(&rt, rt.alloc(), SET, job.as_slice(), &SOUND)?;
     assert_eq!(rt; run.answer, Answer::Done);
     assert_eq!(rt; run.written.len(), 22_516);
     Ok(())

@@ -10,6 +10,7 @@ use pdfmicro_run::{Answer, run_micro};
 use std::alloc::{AllocError, Global};
 use std::test::Fail;
 use std::thread::Threads;
+use test_fonts::tiny10;
 
 /// What fails in a run: reads, writes to the output and writes to talk by their numbers, from 1,
 /// and the room for the output.
@@ -133,7 +134,21 @@ pub fn run_words<R: Threads + Sync>(
     run_gated(rt, alloc, words, job, font, failing, &NoGate)
 }
 
+/// The words that set the job.
+pub const SET: &[&str] = &["pdfmicro", "set", "j"];
+
+/// Runs the words over the job in the font `tiny10`.
+pub fn run_tiny<R: Threads + Sync>(
+    rt: &R,
+    alloc: Global,
+    words: &[&str],
+    job: &[u8],
+    failing: &Failing,
+) -> Result<Run, Fail> {
+    run_words(rt, alloc, words, job, &tiny10(alloc)?, failing)
+}
+
 /// Sets the job in the font, with room enough and nothing that fails.
 pub fn set<R: Threads + Sync>(rt: &R, alloc: Global, job: &[u8], font: &[u8]) -> Result<Run, Fail> {
-    run_words(rt, alloc, &["pdfmicro", "set", "j"], job, font, &SOUND)
+    run_words(rt, alloc, SET, job, font, &SOUND)
 }

@@ -11,30 +11,30 @@
 #![tactic(auto)]
 
 mod asking;
-mod stock;
 
-ghost use Rattle.std.specs.Prelude.{◌≡◌, ◌<◌, ◌≤◌, ◌^◌, All, IsTrue, false, length, unsigned_abs};
+ghost use Rattle.std.specs.Prelude.{◌≤◌, All, length};
 ghost use Rattle.font_stock.specs.Sizes.{IsSize};
 ghost use Rattle.hlist.specs.Bounds.{IsInBounds, IsListOf, IsSmall};
 ghost use Rattle.hlist_build.specs.Parts.{NamesFont};
 ghost use Rattle.break_rule.specs.Over.{Share};
 
 use crate::asking::{Asked, ask_all};
-use crate::stock::{file_bytes, stock_of};
 use break_pass::best_of_pass;
 use break_rule::BreakRule;
 use font_stock::Stock;
 use hlist::{HList, small_lists_are_in_bounds};
-use hlist_build::{ParFault, build};
+use hlist_build::build;
 use job_text::{Job, read_job};
 use liang_hyph::Patterns;
 use list_fonts::{fonts_of_a_paragraph_expand_alike, lists_of_a_stock_are_over_it};
-use micro_num::{NoMemory, Par, Part, PartAt, Sp, Tables};
+use micro_num::{Par, Tables};
 use paragraph_breaks::breaks;
 use std::alloc::Global;
 use std::io;
 use std::rt::Files;
 use std::time::{Clock, Instant};
+use test_jobs::{is_past, name_fonts};
+use timed_jobs::{file_bytes, lost, no_memory, since, stock_of};
 
 /// What all paragraphs came to.
 #[derive(Drop)]
@@ -49,52 +49,6 @@ struct Totals {
     make: u64,
     fits: u64,
     pass: u64,
-}
-
-/// Whether a part names a font of the stock, if it names one.
-fn names_font(stock: &Stock, part: &Part) -> bool
-    ensures { IsTrue result → NamesFont (length stock.now) part.now }
-{
-    match part {
-        Part::Font { font } => *font < stock.count(),
-        _ => true,
-    }
-}
-
-/// Whether each part names a font of the stock, if it names one.
-fn name_fonts(stock: &Stock, parts: &[PartAt]) -> bool
-    ensures { IsTrue result → All (λ one. NamesFont (length stock.now) one.part) parts.now }
-{
-    for one in parts {
-        if !names_font(stock, &one.part) {
-            return false;
-        }
-    }
-    true
-}
-
-/// What can't be had for want of memory, and what has a fault, ends the run.
-fn lost(fault: ParFault) -> io::Error {
-    match fault {
-        ParFault::NoMemory => io::Error::from(io::ErrorKind::OutOfMemory),
-        _ => io::Error::from(io::ErrorKind::InvalidData),
-    }
-}
-
-fn no_memory(_fault: NoMemory) -> io::Error {
-    io::Error::from(io::ErrorKind::OutOfMemory)
-}
-
-/// Whether a length is out of bounds.
-fn is_past(length: Sp) -> bool
-    ensures { result ≡ false → unsigned_abs length < 2 ^ 30 }
-{
-    length.unsigned_abs() >= 1 << 30
-}
-
-/// The nanoseconds since a moment.
-fn since<C: Clock>(clock: &C, start: &Instant) -> io::Result<u64> {
-    Ok(u64::try_from(start.elapsed(clock)?.as_nanos()).unwrap_or(u64::MAX))
 }
 
 /// Times what is kept of a list, and the fits of its lines.

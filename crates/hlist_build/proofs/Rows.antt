@@ -15,7 +15,8 @@ use Rattle.micro_num.specs.declared.part.Part.TheVariants.{Char as char_part, Fo
 use Rattle.hlist_build.specs.Mixing.{standing, first_other, other_than, mixed}
 use Rattle.hlist_build.specs.Paragraph.{ended}
 use Rattle.hlist_build.specs.Parts.{factor_from}
-use Rattle.hlist_build.specs.Runs.{subs_of, run_items, run_fault, empty_disc}
+use Rattle.hlist_runs.specs.Runs.{subs_of}
+use Rattle.hlist_build.specs.Runs.{run_items, run_fault, empty_disc}
 use Rattle.hlist_build.specs.Spaces.{space_at}
 use Rattle.hlist_build.specs.declared.current.Current.{Current}
 use Rattle.hlist_build.specs.declared.fault.ParFault.TheVariants.{MissingChar}

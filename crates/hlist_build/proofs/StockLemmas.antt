@@ -2,22 +2,18 @@
 --
 --     Own stock number font    the stock has this font at this number
 --     Good stock given         the items that are given, if any, are of the stock
-use Rattle.std.proofs.Common.{◌≡◌, ℕ, ◌+◌, ◌-◌, ◌<◌, ◌≤◌, ℤ, pos, negsuc, Bool, true, false, ◌⊎◌, inl, inr, List, [], ◌∷◌, ◌++◌, length, take, drop, All, refl, ap, sym, ◌∙◌, arith}
+use Rattle.std.proofs.Common.{◌≡◌, ℕ, ◌+◌, ◌-◌, ◌<◌, ◌≤◌, ℤ, pos, negsuc, Bool, true, false, ◌⊎◌, inl, inr, List, [], ◌∷◌, ◌++◌, length, take, All, refl, ap, sym, ◌∙◌, arith}
 use Rattle.std.proofs.lemmas.Bool.Decides.{nat_tests}
-use Rattle.std.specs.Prelude.{⊤, Option, Some, None, Result, Ok, Err, IfOk, slice_get, slice_range, flat_map, nat_lt, ◌&&◌, Contains, if◌then◌else◌}
-use Rattle.std.proofs.lemmas.List.Elements.{All-nil, All-cons, All-head, All-tail, All-append, All-take, All-drop, All-from_get_or}
+use Rattle.std.specs.Prelude.{⊤, Option, Some, None, Result, Ok, Err, IfOk, slice_get, flat_map, nat_lt, ◌&&◌, if◌then◌else◌}
+use Rattle.std.proofs.lemmas.List.Elements.{All-nil, All-cons, All-head, All-tail, All-append, All-take}
 use Rattle.font_stock.specs.Fonts.{hyphen_of}
 use Rattle.font_stock.specs.declared.font.Font.{Font}
 use Rattle.tfm_read.specs.Ranges.{exists_at}
-use Rattle.tfm_read.specs.declared.tfm.Tfm.{Tfm}
-use Rattle.lig_kern.specs.Covering.{IsOfFont}
 use Rattle.lig_kern.specs.Outcome.{outcome}
-use Rattle.lig_kern.specs.Running.{AllExist, Answers}
+use Rattle.lig_kern.specs.Running.{Answers}
 use Rattle.lig_kern.specs.declared.fault.LigFault.{LigFault}
 use Rattle.lig_kern.specs.declared.glyph.Glyph.{Glyph}
-use Rattle.lig_kern.specs.declared.glyph.Glyph.TheVariants.{Char as glyph_char, Lig as glyph_lig, Kern as glyph_kern}
 use Rattle.lig_kern.proofs.OutcomeLemmas.{outcome-answers}
-use Rattle.lig_kern.proofs.OwnLemmas.{run-lawful}
 use Rattle.micro_num.specs.declared.disc.ThreeLists.{ThreeLists}
 use Rattle.micro_num.specs.declared.glue.Glue.{Glue}
 use Rattle.micro_num.specs.declared.paragraph.Par.{Par}
@@ -26,7 +22,7 @@ use Rattle.micro_num.specs.declared.params.Params.{Params}
 use Rattle.micro_num.specs.declared.part.Part.{Part}
 use Rattle.micro_num.specs.declared.part.Part.TheVariants.{Char, Space, Normal, Tie, Kern, Skip, Penalty, Hyphen, Disc, Font as font_part}
 use Rattle.micro_num.specs.declared.tables.Tables.{Tables}
-use Rattle.hlist.specs.Bounds.{OfFont, HasChar, HasLig, HasKern, IsLeftOf, IsSubOf, AreListsOf, IsItemOf, IsListOf, IsSmall}
+use Rattle.hlist.specs.Bounds.{IsSubOf, IsItemOf, IsListOf, IsSmall}
 use Rattle.hlist.specs.Counts.{item_count}
 use Rattle.hlist.specs.declared.item.HList.{HList}
 use Rattle.hlist.specs.declared.item.Item.{Item}
@@ -38,7 +34,8 @@ use Rattle.hlist_build.specs.Given.{behind, joined, space_in, normal_in, tie_in,
 use Rattle.hlist_build.specs.Mixing.{mixed}
 use Rattle.hlist_build.specs.Paragraph.{indent_items, without_last_glue, ended, most_items, counted, finished, by_mixed, set_items, list_of}
 use Rattle.hlist_build.specs.Parts.{run_codes, goes_on, factor_before}
-use Rattle.hlist_build.specs.Runs.{left_of, sub_of, subs_of, item_of, ends_in_hyphen, empty_disc, with_break, run_items, run_end, run_given, list_end, list_given, disc_end, disc_given, hyphen_sub, hyphen_disc, in_font, run_in, disc_in, hyphen_in}
+use Rattle.hlist_runs.proofs.LawfulLemmas.{glyphs-lawful}
+use Rattle.hlist_build.specs.Runs.{item_of, ends_in_hyphen, empty_disc, with_break, run_items, run_end, run_given, list_end, list_given, disc_end, disc_given, hyphen_sub, hyphen_disc, in_font, run_in, disc_in, hyphen_in}
 use Rattle.hlist_build.specs.Spaces.{current_before}
 use Rattle.hlist_build.specs.declared.current.Current.{Current}
 use Rattle.hlist_build.specs.declared.fault.ParFault.{ParFault}
@@ -58,52 +55,13 @@ one-item stock item good = All-cons (IsItemOf stock) item [] good (All-nil (IsIt
 two-items : (stock : List Font) (a b : Item) → IsItemOf stock a → IsItemOf stock b → All (IsItemOf stock) (a ∷ b ∷ [])
 two-items stock a b good more = All-cons (IsItemOf stock) a (b ∷ []) good (one-item stock b more)
 
--- ---- the glyphs of a run in a font of the stock
-
-abbrev OwnBefore : Tfm → Option Glyph → Type 0
-OwnBefore tfm None = ⊤
-OwnBefore tfm (Some glyph) = IsOfFont tfm glyph
-
 module _ (stock : List Font) (number : ℕ) (font : Font) (is : slice_get stock number ≡ Some font) where
-  left-good : (before : Option Glyph) (fix : ℤ) → OwnBefore font.tfm before → Contains font.tfm.kerns fix → IsLeftOf stock (left_of number before fix)
-  left-good None fix own has = tt
-  left-good (Some (glyph_char code at)) fix own has =
-      record { font = font; is = is; holds = record { glyph = own; kern = has } }
-  left-good (Some (glyph_lig code from to)) fix own has =
-      record { font = font; is = is; holds = record { glyph = own; kern = has } }
-  left-good (Some (glyph_kern other)) fix own has = tt
-
-  sub-good : (size : ℤ) (codes : List ℕ) (before : Option Glyph) (glyph : Glyph) → All (λ code. HasChar code font) codes
-      → OwnBefore font.tfm before → IsOfFont font.tfm glyph → IsSubOf stock (sub_of number size codes before glyph)
-  sub-good size codes before (glyph_char code at) exist own here = record { font = font; is = is; holds = here }
-  sub-good size codes before (glyph_lig code from to) exist own here =
-      let Has : ℕ → Type 0 = λ code. HasChar code font in
-      record {
-        font = font;
-        is = is;
-        holds = record { own = here; covered = All-take Has (to - from) (drop from codes) (All-drop Has from codes exist) };
-      }
-  sub-good size codes before (glyph_kern fix) exist own here = left-good before fix own here.0
-
-  subs-good : (size : ℤ) (codes : List ℕ) (before : Option Glyph) (glyphs : List Glyph) → All (λ code. HasChar code font) codes
-      → OwnBefore font.tfm before → All (IsOfFont font.tfm) glyphs → All (IsSubOf stock) (subs_of number size codes before glyphs)
-  unfolding subs_of
-  subs-good size codes before [] exist own all = All-nil (IsSubOf stock)
-  subs-good size codes before (glyph ∷ glyphs) exist own all =
-      let here = All-head (IsOfFont font.tfm) glyph glyphs all in
-      All-cons (IsSubOf stock) (sub_of number size codes before glyph) (subs_of number size codes (Some glyph) glyphs)
-      (sub-good size codes before glyph exist own here)
-      (subs-good size codes (Some glyph) glyphs exist here (All-tail (IsOfFont font.tfm) glyph glyphs all))
-
   -- ---- runs and discretionaries
-
-  all-exist : (codes : List ℕ) → AllExist font.tfm.chars codes → All (λ code. HasChar code font) codes
-  all-exist codes exist = All-from_get_or (λ code. HasChar code font) codes 0 exist
 
   list-good : (offset : ℕ) (codes : List ℕ) (end : Result (List Glyph) LigFault) → Answers font.tfm codes true true end
       → GoodSubs stock (list_end number font offset codes end)
   list-good offset codes (Ok glyphs) answer =
-      subs-good font.size codes None glyphs (all-exist codes answer.exist) tt (run-lawful font.tfm codes true true glyphs answer).own
+      (glyphs-lawful stock number font codes true true glyphs is answer).own
   list-good offset codes (Err fault) answer = tt
 
   given-list : (offset : ℕ) (codes : List ℕ) → GoodSubs stock (list_given number font offset codes)
@@ -141,9 +99,7 @@ module _ (stock : List Font) (number : ℕ) (font : Font) (is : slice_get stock 
       → Good stock (run_end number font parts end)
   unfolding run_items
   run-good parts (Ok glyphs) answer =
-      items-good font.codes.hyphen _
-      (subs-good font.size (run_codes parts) None glyphs (all-exist (run_codes parts) answer.exist) tt
-      (run-lawful font.tfm (run_codes parts) true true glyphs answer).own)
+      items-good font.codes.hyphen _ (glyphs-lawful stock number font (run_codes parts) true true glyphs is answer).own
   run-good parts (Err fault) answer = tt
 
   given-run : (parts : List PartAt) → Good stock (run_given number font parts)

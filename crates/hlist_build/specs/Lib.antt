@@ -5,4 +5,3 @@ pub mod Given
 pub mod Counts
 pub mod Mixing
 pub mod Paragraph
-pub mod Within

@@ -1,6 +1,6 @@
 -- The items of a run and of a discretionary's lists: its glyphs in a font (TeX: The Program, sections 1032 to
 -- 1040, and 1117).
-use Rattle.std.specs.Prelude.{ℕ, ◌-◌, ℤ, pos, negsuc, Bool, false, ◌==◌, if◌then◌else◌, List, [], ◌∷◌, length, Option, Some, None, Result, Ok, Err, true, slice_get, slice_range, flat_map, option_to_list}
+use Rattle.std.specs.Prelude.{ℕ, ◌-◌, ℤ, pos, negsuc, Bool, false, ◌==◌, if◌then◌else◌, List, [], ◌∷◌, length, Option, Some, None, Result, Ok, Err, true, slice_get, flat_map, option_to_list}
 use Rattle.std.specs.Option.{option_map_or}
 use Rattle.font_stock.specs.Fonts.{hyphen_of}
 use Rattle.font_stock.specs.declared.font.Font.{Font}
@@ -8,38 +8,17 @@ use Rattle.lig_kern.specs.Outcome.{outcome}
 use Rattle.lig_kern.specs.declared.fault.LigFault.{LigFault}
 use Rattle.lig_kern.specs.declared.fault.LigFault.TheVariants.{Missing, TooManySteps, NoMemory}
 use Rattle.lig_kern.specs.declared.glyph.Glyph.{Glyph}
-use Rattle.lig_kern.specs.declared.glyph.Glyph.TheVariants.{Char, Lig, Kern}
-use Rattle.micro_num.specs.Scaling.{scaled}
 use Rattle.micro_num.specs.declared.disc.ThreeLists.{ThreeLists}
 use Rattle.micro_num.specs.declared.paragraph.PartAt.{PartAt}
+use Rattle.hlist_runs.specs.Runs.{subs_of}
 use Rattle.hlist_build.specs.Parts.{run_codes, offset_at}
 use Rattle.hlist_build.specs.declared.current.Current.{Current}
 use Rattle.hlist_build.specs.declared.fault.ParFault.{ParFault}
 use Rattle.hlist_build.specs.declared.fault.ParFault.TheVariants.{MissingChar, LigTooLong, NoMemory as no_memory}
-use Rattle.hlist.specs.declared.item.KernLeft.{KernLeft}
 use Rattle.hlist.specs.declared.item.Sub.{Sub}
 use Rattle.hlist.specs.declared.item.Sub.TheVariants.{Char as sub_char, Lig as sub_lig, FontKern as sub_kern}
 use Rattle.hlist.specs.declared.item.Item.{Item}
 use Rattle.hlist.specs.declared.item.Item.TheVariants.{Char as item_char, Lig as item_lig, FontKern as item_kern, Disc}
-
--- a font kern expands with the character or ligature directly before it in its run, if there is one
-abbrev pub left_of : ℕ → Option Glyph → ℤ → Option KernLeft
-left_of font None fix = None
-left_of font (Some (Char code at)) fix = Some (record { font = font; code = code; fix = fix })
-left_of font (Some (Lig code from to)) fix = Some (record { font = font; code = code; fix = fix })
-left_of font (Some (Kern other)) fix = None
-
--- a glyph of a run of codes in font `number` at a size, behind another glyph of the run or none
-abbrev pub sub_of : ℕ → ℤ → List ℕ → Option Glyph → Glyph → Sub
-sub_of number size codes before (Char code at) = sub_char number code
-sub_of number size codes before (Lig code from to) = sub_lig number code (slice_range codes from to)
-sub_of number size codes before (Kern fix) = sub_kern (scaled fix size) (left_of number before fix)
-
--- the glyphs of a run, behind another glyph of it or none
-unfoldable pub subs_of : ℕ → ℤ → List ℕ → Option Glyph → List Glyph → List Sub
-subs_of number size codes before [] = []
-subs_of number size codes before (glyph ∷ glyphs) =
-    sub_of number size codes before glyph ∷ subs_of number size codes (Some glyph) glyphs
 
 abbrev pub item_of : Sub → Item
 item_of (sub_char font code) = item_char font code

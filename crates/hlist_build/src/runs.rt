@@ -9,9 +9,10 @@ ghost use Rattle.hlist_build.specs.declared.fault.ParFault.TheVariants.{NoMemory
 
 use crate::current::Current;
 use crate::fault::ParFault;
-use crate::glyphs::{push_glyphs, push_plain, subs_of};
+use crate::glyphs::{push_glyphs, push_plain};
 use font_stock::{Font, Stock};
 use hlist::{Item, Sub};
+use hlist_runs::subs_of;
 use items::Items;
 use lig_kern::{LigFault, Workspace, is_plain};
 use micro_num::{Disc, PartAt};

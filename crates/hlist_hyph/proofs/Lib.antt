@@ -7,3 +7,4 @@ pub mod BoundLemmas
 pub mod OwnLemmas
 pub mod SameLemmas
 pub mod Rows
+pub mod SilentWords

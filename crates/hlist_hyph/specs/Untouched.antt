@@ -1,11 +1,18 @@
 -- What hyphenation leaves as it is: it puts discretionaries in the place of what they stand for without a break.
-use Rattle.std.specs.Prelude.{ℕ, Bool, true, false, List, [], ◌∷◌, ◌++◌, map}
+use Rattle.std.specs.Prelude.{◌≡◌, ℕ, Bool, true, false, List, [], ◌∷◌, ◌++◌, map}
 use Rattle.std.specs.List.{filter}
+use Rattle.font_stock.specs.declared.font.Font.{Font}
+use Rattle.micro_num.specs.declared.tables.Tables.{Tables}
+use Rattle.hlist_hyph.specs.Hyphenated.{Places, hyphenated_items}
 use Rattle.micro_num.specs.declared.disc.ThreeLists.{ThreeLists}
 use Rattle.hlist.specs.declared.item.Item.{Item}
 use Rattle.hlist.specs.declared.item.Item.TheVariants.{Char, Lig, FontKern, Kern, Glue, Penalty, Disc, Box}
 use Rattle.hlist.specs.declared.item.Sub.{Sub}
 use Rattle.hlist.specs.declared.item.Sub.TheVariants.{Char as sub_char, Lig as sub_lig, FontKern as sub_kern}
+
+-- the hyphenated form of items is these
+abbrev pub Stays : Tables → List Font → Places → List Item → Type 0
+Stays tables stock places items = hyphenated_items tables stock places items ≡ items
 
 -- an entry of a discretionary's list as an item
 abbrev pub item_of : Sub → Item

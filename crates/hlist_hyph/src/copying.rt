@@ -1,5 +1,5 @@
 //! Copies of items, whose types aren't `Copy`.
-ghost use Rattle.std.specs.Prelude.{◌≡◌, ◌++◌, IfOk, OnOk};
+ghost use Rattle.std.specs.Prelude.{◌≡◌, ◌++◌, ◌∷◌, [], IfOk, OnOk};
 
 use hlist::{HList, Item, Sub};
 use items::Items;
@@ -72,12 +72,31 @@ pub fn copy_item(alloc: Global, item: &Item) -> Result<Item, AllocError>
     }
 }
 
+/// Puts a copy of an item at the end of a list. An item that owns no memory is made in its place.
+fn push_copy(alloc: Global, list: &mut Items<Item>, item: &Item) -> Result<(), AllocError>
+    ensures { OnOk result (list.new ≡ list.old ++ item.now ∷ []) }
+{
+    match item {
+        Item::Char { font, code } => list.push(Item::Char {
+            font: *font,
+            code: *code,
+        })?,
+        Item::FontKern { width, left } => list.push(Item::FontKern {
+            width: *width,
+            left: *left,
+        })?,
+        Item::Glue { glue } => list.push(Item::Glue { glue: *glue })?,
+        _ => list.push(copy_item(alloc, item)?)?,
+    }
+    Ok(())
+}
+
 /// Puts copies of items at the end of a list.
 pub fn push_copies(alloc: Global, list: &mut Items<Item>, items: &[Item]) -> Result<(), AllocError>
     ensures { OnOk result (list.new ≡ list.old ++ items.now) }
 {
     for item in items {
-        list.push(copy_item(alloc, item)?)?;
+        push_copy(alloc, list, item)?;
     }
     Ok(())
 }
@@ -86,7 +105,7 @@ pub fn push_copies(alloc: Global, list: &mut Items<Item>, items: &[Item]) -> Res
 pub fn copied(alloc: Global, list: &HList) -> Result<HList, AllocError>
     ensures { IfOk result (λ twin. twin ≡ list.now) }
 {
-    let copy = |item: &Item| copy_item(alloc, item);
-    let items = Items::from_copies(alloc, list.items.as_slice(), copy)?;
+    let mut items = Items::from_vec(Vec::with_capacity(alloc, list.items.len())?);
+    push_copies(alloc, &mut items, list.items.as_slice())?;
     Ok(HList { items })
 }

@@ -36,6 +36,10 @@ fn push_word(
         (places_in patterns.now params.now) word items.now) }
 {
     let places = Items::from_vec(word_places(alloc, params, tables, patterns, items)?);
+    if places.len() == 0 {
+        push_copies(alloc, list, items)?;
+        return Ok(());
+    }
     let setting = Setting {
         number: word.number,
         hyphen: word.hyphen,

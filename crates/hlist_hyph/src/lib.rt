@@ -16,6 +16,7 @@ mod pieces;
 mod places;
 mod setting;
 mod splitting;
+mod unchanged;
 mod word;
 
 pub use copying::copied;
@@ -24,3 +25,4 @@ pub use laws::{
     fixed_items_stay, listed_fonts_are_below, only_discretionaries_are_new,
     places_are_those_of_the_patterns,
 };
+pub use unchanged::is_changed;

@@ -83,7 +83,8 @@ subs-length number size codes before (glyph ∷ glyphs) = ap (λ (n : ℕ). suc 
 exist-each : (font : Font) (codes : List ℕ) → AllExist font.tfm.chars codes → All (λ code. HasChar code font) codes
 exist-each font codes exist = All-from_get_or (λ code. HasChar code font) codes 0 exist
 
-glyphs-lawful : (stock : List Font) (number : ℕ) (font : Font) (codes : List ℕ) (left right : Bool) (glyphs : List Glyph)
+-- the entries of a run
+pub glyphs-lawful : (stock : List Font) (number : ℕ) (font : Font) (codes : List ℕ) (left right : Bool) (glyphs : List Glyph)
     → slice_get stock number ≡ Some font → IsRun font.tfm codes left right glyphs
     → IsLawfulList stock number codes (subs_of number font.size codes None glyphs)
 glyphs-lawful stock number font codes left right glyphs is run =

@@ -12,7 +12,7 @@ use lig_kern::Glyph;
 use std::alloc::{AllocError, Global};
 
 /// What a kern expands with behind a glyph of its run.
-fn left_of(font: u32, before: Option<Glyph>, fix: i32) -> Option<KernLeft>
+pub fn left_of(font: u32, before: Option<Glyph>, fix: i32) -> Option<KernLeft>
     ensures { result ≡ left_of font before fix }
 {
     match before {
@@ -24,7 +24,7 @@ fn left_of(font: u32, before: Option<Glyph>, fix: i32) -> Option<KernLeft>
 }
 
 /// The codes that a ligature stands for.
-fn covered(alloc: Global, codes: &[u8], from: u32, to: u32) -> Result<Items<u8>, AllocError>
+pub fn covered(alloc: Global, codes: &[u8], from: u32, to: u32) -> Result<Items<u8>, AllocError>
     requires order { from ≤ to }
     requires within { to ≤ length codes.now }
     ensures { IfOk result (λ covers. covers ≡ slice_range codes.now from to) }

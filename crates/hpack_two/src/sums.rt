@@ -1,6 +1,7 @@
 //! What the pieces of a line add up to with its fonts as they are (TeX: The Program, sections 651
 //! to 656).
-ghost use Rattle.std.specs.Prelude.{◌≡◌, ◌≤◌, ◌^◌, Contains, Some, count_by, pos, unsigned_abs};
+ghost use Rattle.std.specs.Prelude.{◌≡◌, ◌≤◌, ◌^◌, ◌+◌, ℕ, Contains, Some, count_by, pos};
+ghost use Rattle.std.specs.Prelude.{unsigned_abs};
 ghost use Rattle.font_stock.specs.declared.font.Font.{Font};
 ghost use Rattle.hlist.specs.Bounds.{OfFont};
 ghost use Rattle.break_rule.specs.Adding.{rigid};
@@ -8,7 +9,7 @@ ghost use Rattle.break_rule.specs.Kept.{IsWithin};
 ghost use Rattle.break_rule.specs.Packable.{IsPackablePiece};
 ghost use Rattle.hpack_two.specs.Lines.{is_glyph};
 ghost use Rattle.hpack_two.specs.Over.{IsOver};
-ghost use Rattle.hpack_two.specs.Widths.{added as added_of, sums_of_piece, sums_of_font_move};
+ghost use Rattle.hpack_two.specs.Widths.{added as added_of, sums_of_font_move, with_piece};
 
 use crate::steps::kern_as_it_is;
 use break_rule::{Piece, Sums, glyph_sums, kern_sums};
@@ -24,27 +25,30 @@ pub fn added(stock: &Stock, pieces: &[Piece]) -> Sums
 {
     let mut sums = Sums::nothing();
     for piece in pieces {
-        sums = sums.plus(&piece_sums(stock, piece));
+        sums = with_piece(stock, &sums, piece);
     }
     sums
 }
 
-/// What a piece adds.
-fn piece_sums(stock: &Stock, piece: &Piece) -> Sums
-    requires { IsPackablePiece stock.now piece.now }
-    ensures exact { result ≡ sums_of_piece stock.now piece.now }
-    ensures small { IsWithin 1 result }
+/// What some pieces and one more add. A glyph leaves most of the sums as they are, which the
+/// compiler sees where each kind of piece is added by itself.
+#[inline(always)]
+fn with_piece(stock: &Stock, sums: &Sums, piece: &Piece) -> Sums
+    requires sums { IsWithin 131076 sums.now }
+    requires piece { IsPackablePiece stock.now piece.now }
+    ensures exact { result ≡ with_piece stock.now sums.now piece.now }
+    ensures small { (count : ℕ) → IsWithin count sums.now → IsWithin (count + 1) result }
 {
     match piece {
-        Piece::Glyph { font, code } => glyph_sums(stock, *font, *code),
-        Piece::Space { glue } => Sums::of_glue(*glue),
-        Piece::Move { width } => moved(*width),
+        Piece::Glyph { font, code } => sums.plus(&glyph_sums(stock, *font, *code)),
+        Piece::Space { glue } => sums.plus(&Sums::of_glue(*glue)),
+        Piece::Move { width } => sums.plus(&moved(*width)),
         Piece::FontMove {
             font,
             code,
             fix,
             ..
-        } => font_move_sums(stock, *font, *code, *fix),
+        } => sums.plus(&font_move_sums(stock, *font, *code, *fix)),
     }
 }
 

@@ -20,7 +20,6 @@ use Rattle.hlist_build.specs.declared.fault.ParFault.{ParFault}
 use Rattle.hlist_build.specs.declared.fault.ParFault.TheVariants.{MissingChar, LigTooLong, TooManyItems, MixedExpansion, OutOfRange, NoMemory as no_memory}
 use Rattle.hlist_hyph.specs.Hyphenated.{Places}
 use Rattle.micro_texts.specs.Breaks.{breaks_line}
-use Rattle.para_workers.specs.Pages.{set_fault}
 use Rattle.para_workers.specs.SetPar.{paragraph_of}
 use Rattle.para_workers.specs.declared.fault.ParAt.{ParAt}
 use Rattle.para_workers.specs.declared.fault.SetFault.{SetFault}
@@ -30,7 +29,7 @@ use Rattle.para_workers.proofs.WholePages.{list-is}
 use Rattle.paragraph_breaks.specs.Outcome.{IsBroken}
 use Rattle.paragraph_breaks.specs.Passes.{Paragraph, given_by}
 use Rattle.paragraph_breaks.specs.declared.broken.Broken.{Broken}
-use Rattle.job_breaks.specs.Lines.{TellsLine, TellsLines, line_of_built, line_of_list, line_of_par, line_of_taken, lines_from, lines_with}
+use Rattle.job_breaks.specs.Lines.{TellsLine, TellsLines, line_of_built, line_of_list, line_of_par, line_of_taken, lines_from, lines_with, set_fault}
 
 -- ---- one paragraph
 

@@ -4,6 +4,7 @@
 --     line_of_par                 the same, or its fault where it has no list
 --     lines_from                  those of paragraphs of which the first has a number
 --     broken_lines job stock      those of all, or the first paragraph that has none
+--     set_fault                   the fault of a paragraph of a number
 --     TellsLine, TellsLines       an answer is this, but for want of memory
 use Rattle.std.specs.Prelude.{◌≡◌, ⊤, ℕ, ◌+◌, List, [], ◌∷◌, Option, Some, None, Result, Ok, Err}
 use Rattle.font_stock.specs.declared.font.Font.{Font}
@@ -13,6 +14,7 @@ use Rattle.micro_num.specs.declared.tables.Tables.{Tables}
 use Rattle.hlist.specs.declared.item.HList.{HList}
 use Rattle.hlist_build.specs.Paragraph.{list_of}
 use Rattle.hlist_build.specs.declared.fault.ParFault.{ParFault}
+use Rattle.hlist_build.specs.declared.fault.ParFault.TheVariants.{NoMemory as no_memory}
 use Rattle.hlist_hyph.specs.Hyphenated.{Places}
 use Rattle.job_text.specs.declared.job.Job.{Job}
 use Rattle.line_break.specs.Taken.{Taken, first_taken}
@@ -23,6 +25,11 @@ use Rattle.para_workers.specs.declared.fault.ParAt.{ParAt}
 use Rattle.para_workers.specs.declared.fault.SetFault.{SetFault}
 use Rattle.para_workers.specs.declared.fault.SetFault.TheVariants.{Par as par_fault, NoMemory}
 use Rattle.paragraph_breaks.specs.Passes.{Paragraph, passes_of}
+
+-- want of memory is none of a paragraph's faults
+abbrev pub set_fault : ℕ → ParFault → SetFault
+set_fault number no_memory = NoMemory
+set_fault number fault = par_fault (record { paragraph = number; fault = fault })
 
 abbrev pub taken_of : Paragraph → Option Taken
 taken_of p = first_taken p.params.looseness (passes_of p)

@@ -4,10 +4,10 @@ ghost use Rattle.hlist.specs.Bounds.{IsListOf, IsSmall};
 ghost use Rattle.hlist_hyph.specs.Hyphenated.{places_in};
 ghost use Rattle.break_rule.specs.Over.{Share};
 ghost use Rattle.para_workers.specs.Lengths.{HasLengths};
-ghost use Rattle.para_workers.specs.Pages.{IsSettable, set_fault};
+ghost use Rattle.para_workers.specs.Pages.{IsSettable};
 ghost use Rattle.para_workers.specs.SetPar.{paragraph_of};
 ghost use Rattle.job_breaks.specs.Lines.{TellsLine, TellsLines, line_of_list, line_of_par};
-ghost use Rattle.job_breaks.specs.Lines.{lines_from};
+ghost use Rattle.job_breaks.specs.Lines.{lines_from, set_fault};
 
 use font_stock::Stock;
 use hlist::HList;

@@ -1,51 +1,22 @@
 //! Jobs in a font whose characters are all half a size wide, and the lines of their paragraphs,
 //! worked out by hand.
-ghost use Rattle.std.specs.Prelude.{◌≡◌, ◌≤◌, All, IfOk, length};
-ghost use Rattle.font_stock.specs.Sizes.{IsSize};
-ghost use Rattle.job_text.specs.declared.font_decl.FontDecl.{FontDecl};
-
 use crate::lines::break_pars;
-use font_stock::Stock;
 use hlist_build::ParFault;
 use items::{Items, Text};
-use job_fonts::read_font;
-use job_text::{FontDecl, Job, read_job};
-use liang_hyph::Patterns;
-use para_workers::{ParAt, SetFault, paragraphs_of_a_job_can_be_set};
+use para_workers::{ParAt, SetFault};
 use std::alloc::Global;
 use std::test::Fail;
 use test_fonts::tiny10;
-
-/// The fonts of some declarations, all of which have the same file.
-fn fonts_of(alloc: Global, decls: &[FontDecl], file: &[u8]) -> Result<Stock, Fail>
-    requires few { length decls.now ≤ 32 }
-    requires sizes { All (λ (decl : FontDecl). IsSize decl.size) decls.now }
-    ensures { IfOk result (λ stock. length stock ≡ length decls.now) }
-{
-    let mut fonts = Vec::with_capacity(alloc, decls.len())?;
-    for decl in decls {
-        fonts.push(read_font(alloc, decl, file)?)?;
-    }
-    Ok(Stock::make(fonts))
-}
+use test_jobs::{Document, read_document};
 
 /// The lines of a job's paragraphs, or the first paragraph that has none.
 fn lines_of(alloc: Global, job: &[u8]) -> Result<Result<Items<Text>, SetFault>, Fail> {
-    if job.len() >= 1 << 32 {
-        return Err(Fail::new(format_args!("a long job")));
-    }
-    paragraphs_of_a_job_can_be_set();
-    let Job {
-        fonts,
-        tables,
+    let Document {
+        job,
         patterns,
-        exceptions,
-        pars,
-    } = read_job(alloc, job)?;
-    let file = tiny10(alloc)?;
-    let stock = fonts_of(alloc, fonts.as_slice(), file.as_slice())?;
-    let patterns = Patterns::make(alloc, patterns.as_slice(), exceptions.as_slice())?;
-    Ok(break_pars(alloc, pars.as_slice(), &tables, &patterns, &stock))
+        stock,
+    } = read_document(alloc, job, &tiny10(alloc)?)?;
+    Ok(break_pars(alloc, job.pars.as_slice(), &job.tables, &patterns, &stock))
 }
 
 #[test]

@@ -9,32 +9,8 @@ use items::Items;
 use job_text::FontDecl;
 use std::alloc::{AllocError, Global};
 use std::test::Fail;
+use test_fonts::{HALF, kerned10};
 use tfm_read::TfmFaultKind;
-
-/// A font of the codes 33 to 126, each of this width and half a design size high, with one kern.
-/// Its design size is 10pt.
-fn font_file(alloc: Global, width: u32, kern: u32) -> Result<Vec<u8>, AllocError> {
-    let mut words = vec![in alloc;
-        116 << 16 | 2,
-        33 << 16 | 126,
-        2 << 16 | 2,
-        1 << 16 | 1,
-        1,
-        7,
-        0,
-        10485760,
-    ]?;
-    for _ in 33..127 {
-        words.push(0x01100000)?;
-    }
-    words.extend_from_slice(&[0, width, 0, 524288, 0, 0, kern])?;
-    words.extend_from_slice(&[0, 262144, 131072, 65536, 524288, 1048576, 0])?;
-    let mut bytes = Vec::new(alloc);
-    for word in &words {
-        bytes.extend_from_slice(&word.to_be_bytes())?;
-    }
-    Ok(bytes)
-}
 
 /// The font tiny10 at a size, of which `a` hangs by 50 thousandths into the left margin.
 fn declared(alloc: Global, size: Size, expand: Option<Expand>) -> Result<FontDecl, AllocError>
@@ -55,7 +31,7 @@ fn declared(alloc: Global, size: Size, expand: Option<Expand>) -> Result<FontDec
 #[test]
 fn a_declared_font_is_read(rt: HostRuntime) -> Result<(), Fail> {
     let alloc = rt.alloc();
-    let bytes = font_file(alloc, 524288, 0xffff0000)?;
+    let bytes = kerned10(alloc, HALF, 0xffff0000)?;
     let decl = declared(alloc, Size::Scaled { by: 1001 }, None)?;
     let font = read_font(alloc, &decl, &bytes)?;
     assert_eq!(rt; font.size(), 656015);
@@ -77,7 +53,7 @@ fn the_size_comes_before_a_character_and_that_before_a_kern(rt: HostRuntime) -> 
         (0x00ffffff, 0x00ffffff, 134217728, 11),
         (0x00ffffff, 0x00ffffff, 134217727, 12),
         (0xff000000, 0, 655360, 12),
-        (524288, 0x00ffffff, 655360, 13),
+        (HALF, 0x00ffffff, 655360, 13),
     ];
     for (width, kern, size, number) in cases {
         assert!(rt; *size >= 1);
@@ -86,7 +62,7 @@ fn the_size_comes_before_a_character_and_that_before_a_kern(rt: HostRuntime) -> 
             shrink: 20,
             step: 4,
         });
-        let bytes = font_file(alloc, *width, *kern)?;
+        let bytes = kerned10(alloc, *width, *kern)?;
         let decl = declared(alloc, Size::At { size: *size }, expand)?;
         match read_font(alloc, &decl, &bytes) {
             Err(FontFault::At { kind, word }) => {
@@ -103,7 +79,7 @@ fn the_size_comes_before_a_character_and_that_before_a_kern(rt: HostRuntime) -> 
 #[test]
 fn a_fault_of_the_file_comes_first_with_its_word(rt: HostRuntime) -> Result<(), Fail> {
     let alloc = rt.alloc();
-    let bytes = font_file(alloc, 0x01000000, 0x00ffffff)?;
+    let bytes = kerned10(alloc, 0x01000000, 0x00ffffff)?;
     let decl = declared(alloc, Size::At { size: 134217728 }, None)?;
     let refused = read_font(alloc, &decl, &bytes);
     let kind = FontFaultKind::Tfm {

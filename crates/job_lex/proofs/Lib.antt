@@ -4,3 +4,4 @@ pub mod Adjoining
 pub mod Once
 pub mod Neighbours
 pub mod Ahead
+pub mod PlainTokens

@@ -2,12 +2,13 @@
 //! section 343), so that no list of them is kept.
 //!
 //! A cursor stands where a token begins or the file ends, in a file that has tokens.
-ghost use Rattle.std.specs.Prelude.{◌≡◌, ◌<◌, ◌^◌, ◌∷◌, length, IfOk, IfSome, MatchResult};
+ghost use Rattle.std.specs.Prelude.{◌≡◌, ◌+◌, ◌<◌, ◌≤◌, ◌^◌, ◌∷◌, ◌++◌, length, IfOk, IfSome};
+ghost use Rattle.std.specs.Prelude.{MatchResult};
 ghost use Rattle.job_lex.specs.Ahead.{TokensFrom, TokensFrom-prop};
 
 use crate::fault::LexFaultKind;
 use crate::lexer::{first_fault, token_at};
-use crate::plain::plain_at;
+use crate::plain_text::{PlainText, plain_end};
 use crate::token::Tok;
 
 /// A place in a file, and the tokens from there on.
@@ -22,6 +23,7 @@ pub struct Cursor<'a> {
 impl<'a> Cursor<'a> {
     ghost use Rattle.job_lex.specs.Tokens.{AreTokens, IsToken, IsFirstFault};
     ghost use Rattle.job_lex.specs.Cursors.{bytes_of, toks_of, IsFirst};
+    ghost use Rattle.job_lex.specs.PlainTokens.{plain_toks};
 
     /// At the first token of a file of fewer than 2^32 bytes; or the first place outside comments
     /// where no token begins, and why.
@@ -59,19 +61,28 @@ impl<'a> Cursor<'a> {
         }
     }
 
-    /// The same where two bytes tell the token, as in plain text; otherwise nothing.
+    /// The plain text at the cursor, of which each byte is a token, and the cursor behind it.
     #[inline(always)]
-    pub fn next_plain(self) -> Option<(Tok, Cursor<'a>)>
-        ensures file { IfSome result (λ x. bytes_of x.1 ≡ bytes_of self.entry) }
-        ensures first { IfSome result (λ x. toks_of self.entry ≡ x.0 ∷ toks_of x.1) }
+    pub fn plain_text(self) -> (PlainText<'a>, Cursor<'a>)
+        ensures bytes { result.0.bytes.now ≡ bytes_of self.entry }
+        ensures within { result.0.from + result.0.count ≤ length (bytes_of self.entry) }
+        ensures small { length (bytes_of self.entry) < 2 ^ 32 }
+        ensures file { bytes_of result.1 ≡ bytes_of self.entry }
+        ensures ahead { toks_of self.entry ≡ plain_toks (bytes_of self.entry) result.0.from
+            result.0.count ++ toks_of result.1 }
     {
-        if self.place >= self.bytes.len() {
-            return None;
-        }
-        match plain_at(self.bytes, self.place) {
-            Some(tok) => Some((tok, self.behind(tok))),
-            None => None,
-        }
+        let from = self.place;
+        let to = plain_end(self.bytes, from);
+        let text = PlainText {
+            bytes: self.bytes,
+            from,
+            count: to - from,
+        };
+        let behind = Cursor {
+            bytes: self.bytes,
+            place: to,
+        };
+        (text, behind)
     }
 
     /// The cursor behind the token at this one.

@@ -14,6 +14,7 @@ use crate::category::{Category, category_of};
 use crate::fault::{LexFault, LexFaultKind};
 use crate::gap::gap_at;
 use crate::plain::plain_at;
+use crate::plain_text::plain_end;
 use crate::token::{Tok, TokKind};
 use items::Items;
 use std::alloc::Global;
@@ -48,15 +49,15 @@ pub fn tokens(alloc: Global, bytes: &[u8]) -> Result<Items<Tok>, LexFault>
 }
 
 /// The first place outside comments where no token begins, and why, if there is one. A file without
-/// such a place has tokens, so that every file has tokens or a fault.
+/// such a place has tokens, so that every file has tokens or a fault. Plain text is passed over.
 pub fn first_fault(bytes: &[u8]) -> Option<(u32, LexFaultKind)>
     requires { length bytes.now < 2 ^ 32 }
     ensures { MatchOption result (HasTokens bytes.now) (λ x. IsFirstFault bytes.now x.0 x.1) }
 {
-    let mut place = 0;
+    let mut place = plain_end(bytes, 0);
     while place < bytes.len() {
         match token_at(bytes, place) {
-            Ok(tok) => place = tok.to as usize,
+            Ok(tok) => place = plain_end(bytes, tok.to as usize),
             Err(kind) => return Some((place as u32, kind)),
         }
     }

@@ -15,6 +15,7 @@ mod gap;
 mod laws;
 mod lexer;
 mod plain;
+mod plain_text;
 #[cfg(test)]
 mod tests;
 mod token;
@@ -23,4 +24,5 @@ pub use cursor::Cursor;
 pub use fault::{LexFault, LexFaultKind};
 pub use laws::{gaps_stand_apart, texts_are_the_source, tokens_are_one};
 pub use lexer::{first_fault, tokens};
+pub use plain_text::PlainText;
 pub use token::{Tok, TokKind};

@@ -1,6 +1,7 @@
 pub mod Faults
 pub mod Lexemes
 pub mod GrammarTokens
+pub mod PlainTokens
 pub mod Rest
 pub mod Reading
 pub mod Repeats

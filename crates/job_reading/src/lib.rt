@@ -22,6 +22,7 @@ mod word;
 pub use dimensions::dimension;
 pub use fault::{Fault, JobFault, JobFaultKind};
 pub use glues::glue;
+pub use job_lex::PlainText;
 pub use numbers::{natural, number};
 pub use rest::Rest;
 pub use source::Source;

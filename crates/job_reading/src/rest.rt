@@ -3,9 +3,10 @@
 //! They are those of the file without the gaps that mean nothing: a gap that begins with a comment,
 //! and a Space behind a control word or a control space (TeX: The Program, sections 345 to 354).
 //! Each is made from the file's own tokens when it is asked for, so no list of either is kept.
-ghost use Rattle.std.specs.Prelude.{◌≡◌, ◌<◌, ◌≤◌, ◌^◌, false, length, map, Some, IfSome, MatchResult};
+ghost use Rattle.std.specs.Prelude.{◌≡◌, ◌+◌, ◌<◌, ◌≤◌, ◌^◌, ◌++◌, length, map, MatchResult};
 ghost use Rattle.job_reading.specs.GrammarTokens.{lookup, word_lexeme, lexeme_of, token_of};
-ghost use Rattle.job_reading.specs.GrammarTokens.{reserved, grammar_from, is_skip, swallows_space};
+ghost use Rattle.job_reading.specs.GrammarTokens.{reserved, grammar_from, swallows_space};
+ghost use Rattle.job_reading.specs.PlainTokens.{plain_tokens};
 ghost use Rattle.job_lex.specs.Cursors.{bytes_of, toks_of};
 ghost use Rattle.job_reading.specs.Faults.{IsTokenFault};
 ghost use Rattle.job_reading.specs.Reading.{skip_space, equals};
@@ -15,7 +16,7 @@ use crate::fault::{Fault, job_kind};
 use crate::source::{byte, slice};
 use crate::token::{Lexeme, Token};
 use crate::word::{RESERVED, Word};
-use job_lex::{Cursor, Tok, TokKind};
+use job_lex::{Cursor, PlainText, Tok, TokKind};
 
 /// The tokens of the grammar that are left.
 #[derive(Clone, Copy, Debug)]
@@ -63,32 +64,29 @@ impl<'a> Rest<'a> {
         None
     }
 
-    /// The same where two bytes tell the token, as in plain text; otherwise nothing.
-    #[tactic(auto, unfolding(crate::specs::Rest::left))]
+    /// The plain text at the front, of which each byte is a token, and the tokens behind it.
+    #[tactic(auto, unfolding(crate::specs::Rest::left, crate::specs::PlainTokens::plain_tokens))]
     #[inline(always)]
-    pub fn next_plain(self) -> Option<(Token, Rest<'a>)>
-        ensures { IfSome result (λ x. IsNext (Some x) (left self.entry)) }
+    pub fn plain_text(self) -> (PlainText<'a>, Rest<'a>)
+        ensures within { result.0.from + result.0.count ≤ length result.0.bytes.now }
+        ensures small { length result.0.bytes.now < 2 ^ 32 }
+        ensures value { left self.entry ≡ plain_tokens result.0.bytes.now result.0.from
+            result.0.count ++ left result.1 }
     {
         if self.swallows {
-            return None;
+            let none = PlainText {
+                bytes: &[],
+                from: 0,
+                count: 0,
+            };
+            return (none, self);
         }
-        match self.cursor.next_plain() {
-            Some((tok, cursor)) => match plain_lexeme(cursor.bytes(), tok) {
-                Some(lexeme) => Some((
-                    Token {
-                        lexeme,
-                        from: tok.from,
-                        to: tok.to,
-                    },
-                    Rest {
-                        cursor,
-                        swallows: false,
-                    },
-                )),
-                None => None,
-            },
-            None => None,
-        }
+        let (text, cursor) = self.cursor.plain_text();
+        let behind = Rest {
+            cursor,
+            swallows: false,
+        };
+        (text, behind)
     }
 
     /// The tokens behind a Space, if one comes first.
@@ -155,20 +153,6 @@ fn lexeme_of(bytes: &[u8], tok: Tok) -> Lexeme
         TokKind::Close => Lexeme::Close,
         TokKind::Tie => Lexeme::Tie,
         TokKind::Char => Lexeme::Char(byte(bytes, tok.from as usize)),
-    }
-}
-
-/// What a byte that stands for itself or a Space is, and nothing for any other token.
-#[inline(always)]
-fn plain_lexeme(bytes: &[u8], tok: Tok) -> Option<Lexeme>
-    ensures value { IfSome result (λ lexeme. lexeme ≡ lexeme_of bytes.now tok) }
-    ensures kept { IfSome result (λ lexeme. is_skip tok.kind ≡ false) }
-    ensures swallows { IfSome result (λ lexeme. swallows_space lexeme ≡ false) }
-{
-    match tok.kind {
-        TokKind::Char => Some(Lexeme::Char(byte(bytes, tok.from as usize))),
-        TokKind::Space => Some(Lexeme::Space),
-        _ => None,
     }
 }
 

@@ -1,56 +1,68 @@
--- The parameters stay bounded, whatever is assigned to them.
-use Rattle.std.proofs.Common.{ℕ, ◌*◌, ◌^◌, ◌<◌, List, lit≤}
+-- The parameters stay bounded, whatever is assigned to them. No proof here names the parameters: where all go
+-- alike, one is written out, and the rest follows case by case.
+use Rattle.std.proofs.Common.{ℕ, List, lit≤, arith}
 use Rattle.std.specs.Prelude.{ℤ, pos}
+use Rattle.std.proofs.lemmas.Int.{ints}
 use Rattle.micro_num.specs.declared.glue.Glue.{Glue}
 use Rattle.micro_num.specs.declared.params.Params.{Params}
-use Rattle.micro_num.specs.Plain.{rigid, plain_params}
+use Rattle.micro_num.specs.Plain.{plain_params}
 use Rattle.job_reading.specs.declared.token.Token.{Token}
 use Rattle.job_reading.specs.declared.word.IntegerParameter.{IntegerParameter}
-use Rattle.job_reading.specs.declared.word.IntegerParameter.TheVariants.{Pretolerance, Tolerance, Linepenalty, Hyphenpenalty, Exhyphenpenalty, Adjdemerits, Doublehyphendemerits, Finalhyphendemerits, Lefthyphenmin, Righthyphenmin, Pdfprotrudechars, Pdfadjustspacing, Looseness, Hangafter}
+use Rattle.job_reading.specs.declared.word.IntegerParameter.TheVariants.{Tolerance, Looseness, Hangafter}
 use Rattle.job_reading.specs.declared.word.DimensionParameter.{DimensionParameter}
-use Rattle.job_reading.specs.declared.word.DimensionParameter.TheVariants.{Hsize, Parindent, Lineskiplimit, Emergencystretch, Hangindent}
+use Rattle.job_reading.specs.declared.word.DimensionParameter.TheVariants.{Hsize, Hangindent}
 use Rattle.job_reading.specs.declared.word.GlueParameter.{GlueParameter}
-use Rattle.job_reading.specs.declared.word.GlueParameter.TheVariants.{Baselineskip, Lineskip, Parfillskip, Leftskip, Rightskip, Spaceskip, Xspaceskip}
+use Rattle.job_reading.specs.declared.word.GlueParameter.TheVariants.{Baselineskip}
 use Rattle.job_reading.specs.Bounds.{IsLength, IsNumber, IsGlue}
 use Rattle.job_reading.specs.Reading.{equals}
 use Rattle.job_reading.specs.Numbers.{number}
 use Rattle.job_reading.specs.Lengths.{dimension, glue}
-use Rattle.job_text.specs.Assignments.{behind_paragraph, with_integer, with_dimension, with_glue, assign_integer, assign_dimension, assign_glue}
+use Rattle.job_text.specs.Assignments.{behind_paragraph, integer_of, dimension_of, glue_of, with_integer, with_dimension, with_glue, assign_integer, assign_dimension, assign_glue}
 use Rattle.job_text.specs.Fits.{ParamsFit}
 use Rattle.job_reading.proofs.Keeping.{OnRead, OnRead-then}
-use Rattle.job_reading.proofs.Bounds.{natural_number, natural_length, nothing, number_bounded, dimension_bounded, glue_bounded}
+use Rattle.job_reading.proofs.Bounds.{natural_number, nothing, number_bounded, dimension_bounded, glue_bounded}
 
-with_integer_fits : (parameter : IntegerParameter) (value : ℤ) (params : Params) → IsNumber value → ParamsFit params → ParamsFit (with_integer parameter value params)
-with_integer_fits Pretolerance value params bounded fits = assumption
-with_integer_fits Tolerance value params bounded fits = assumption
-with_integer_fits Linepenalty value params bounded fits = assumption
-with_integer_fits Hyphenpenalty value params bounded fits = assumption
-with_integer_fits Exhyphenpenalty value params bounded fits = assumption
-with_integer_fits Adjdemerits value params bounded fits = assumption
-with_integer_fits Doublehyphendemerits value params bounded fits = assumption
-with_integer_fits Finalhyphendemerits value params bounded fits = assumption
-with_integer_fits Lefthyphenmin value params bounded fits = assumption
-with_integer_fits Righthyphenmin value params bounded fits = assumption
-with_integer_fits Pdfprotrudechars value params bounded fits = assumption
-with_integer_fits Pdfadjustspacing value params bounded fits = assumption
-with_integer_fits Looseness value params bounded fits = assumption
-with_integer_fits Hangafter value params bounded fits = assumption
+-- of a parameter of the kind that is assigned there is the value, or what it had
+with_integer-own : (assigned parameter : IntegerParameter) (value : ℤ) (params : Params) → IsNumber value → IsNumber (integer_of params parameter) → IsNumber (integer_of (with_integer assigned value params) parameter)
+with_integer-own Tolerance Tolerance value params new old = new
+with_integer-own _ Tolerance value params new old = old
+with_integer-own _ _ value params new old = assumption
 
-with_dimension_fits : (parameter : DimensionParameter) (value : ℤ) (params : Params) → IsLength value → ParamsFit params → ParamsFit (with_dimension parameter value params)
-with_dimension_fits Hsize value params bounded fits = assumption
-with_dimension_fits Parindent value params bounded fits = assumption
-with_dimension_fits Lineskiplimit value params bounded fits = assumption
-with_dimension_fits Emergencystretch value params bounded fits = assumption
-with_dimension_fits Hangindent value params bounded fits = assumption
+-- and those of the other kinds stay
+with_integer-others : (assigned : IntegerParameter) (value : ℤ) (params : Params) → ((parameter : IntegerParameter) → IsNumber (integer_of (with_integer assigned value params) parameter)) → ParamsFit params → ParamsFit (with_integer assigned value params)
+with_integer-others Tolerance value params own fits = record { integers = own; dimensions = fits.dimensions; glues = fits.glues }
+with_integer-others _ value params own fits = record { integers = own; dimensions = fits.dimensions; glues = fits.glues }
 
-with_glue_fits : (parameter : GlueParameter) (value : Glue) (params : Params) → IsGlue value → ParamsFit params → ParamsFit (with_glue parameter value params)
-with_glue_fits Baselineskip value params bounded fits = assumption
-with_glue_fits Lineskip value params bounded fits = assumption
-with_glue_fits Parfillskip value params bounded fits = assumption
-with_glue_fits Leftskip value params bounded fits = assumption
-with_glue_fits Rightskip value params bounded fits = assumption
-with_glue_fits Spaceskip value params bounded fits = assumption
-with_glue_fits Xspaceskip value params bounded fits = assumption
+with_integer_fits : (assigned : IntegerParameter) (value : ℤ) (params : Params) → IsNumber value → ParamsFit params → ParamsFit (with_integer assigned value params)
+with_integer_fits assigned value params new fits = with_integer-others assigned value params (λ parameter. with_integer-own assigned parameter value params new (fits.integers parameter)) fits
+
+-- of a parameter of the kind that is assigned there is the value, or what it had
+with_dimension-own : (assigned parameter : DimensionParameter) (value : ℤ) (params : Params) → IsLength value → IsLength (dimension_of params parameter) → IsLength (dimension_of (with_dimension assigned value params) parameter)
+with_dimension-own Hsize Hsize value params new old = new
+with_dimension-own _ Hsize value params new old = old
+with_dimension-own _ _ value params new old = assumption
+
+-- and those of the other kinds stay
+with_dimension-others : (assigned : DimensionParameter) (value : ℤ) (params : Params) → ((parameter : DimensionParameter) → IsLength (dimension_of (with_dimension assigned value params) parameter)) → ParamsFit params → ParamsFit (with_dimension assigned value params)
+with_dimension-others Hsize value params own fits = record { dimensions = own; integers = fits.integers; glues = fits.glues }
+with_dimension-others _ value params own fits = record { dimensions = own; integers = fits.integers; glues = fits.glues }
+
+with_dimension_fits : (assigned : DimensionParameter) (value : ℤ) (params : Params) → IsLength value → ParamsFit params → ParamsFit (with_dimension assigned value params)
+with_dimension_fits assigned value params new fits = with_dimension-others assigned value params (λ parameter. with_dimension-own assigned parameter value params new (fits.dimensions parameter)) fits
+
+-- of a parameter of the kind that is assigned there is the value, or what it had
+with_glue-own : (assigned parameter : GlueParameter) (value : Glue) (params : Params) → IsGlue value → IsGlue (glue_of params parameter) → IsGlue (glue_of (with_glue assigned value params) parameter)
+with_glue-own Baselineskip Baselineskip value params new old = new
+with_glue-own _ Baselineskip value params new old = old
+with_glue-own _ _ value params new old = assumption
+
+-- and those of the other kinds stay
+with_glue-others : (assigned : GlueParameter) (value : Glue) (params : Params) → ((parameter : GlueParameter) → IsGlue (glue_of (with_glue assigned value params) parameter)) → ParamsFit params → ParamsFit (with_glue assigned value params)
+with_glue-others Baselineskip value params own fits = record { glues = own; integers = fits.integers; dimensions = fits.dimensions }
+with_glue-others _ value params own fits = record { glues = own; integers = fits.integers; dimensions = fits.dimensions }
+
+with_glue_fits : (assigned : GlueParameter) (value : Glue) (params : Params) → IsGlue value → ParamsFit params → ParamsFit (with_glue assigned value params)
+with_glue_fits assigned value params new fits = with_glue-others assigned value params (λ parameter. with_glue-own assigned parameter value params new (fits.glues parameter)) fits
 
 pub assign_integer_fits : (end : ℕ) (params : Params) (parameter : IntegerParameter) (toks : List Token) → ParamsFit params → OnRead ParamsFit (assign_integer end params parameter toks)
 unfolding assign_integer
@@ -70,42 +82,33 @@ assign_glue_fits end params parameter toks fits =
 -- behind a paragraph
 pub behind_paragraph_fits : (params : Params) → ParamsFit params → ParamsFit (behind_paragraph params)
 behind_paragraph_fits params fits =
-    let none = natural_number 0 (lit≤ tt) in
-    let one = natural_number 1 (lit≤ tt) in
-    let rigid_one = nothing in
-    assumption
+    with_integer_fits Looseness (pos 0) (with_dimension Hangindent (pos 0) (with_integer Hangafter (pos 1) params)) (natural_number 0 (lit≤ tt))
+    (with_dimension_fits Hangindent (pos 0) (with_integer Hangafter (pos 1) params) nothing
+    (with_integer_fits Hangafter (pos 1) params (natural_number 1 (lit≤ tt)) fits))
 
 -- the parameters of plain TeX
-rigid_bounded : (n : ℕ) → n < 2 ^ 30 → IsGlue (rigid (pos n))
-rigid_bounded n small = record { width = natural_length n small; stretch = nothing; shrink = nothing }
+plain_integers : (parameter : IntegerParameter) → IsNumber (integer_of plain_params parameter)
+unfolding plain_params
+plain_integers Tolerance = record { low = omega (arith, ints); high = omega (arith, ints) }
+plain_integers _ = record { low = omega (arith, ints); high = omega (arith, ints) }
+
+plain_dimensions : (parameter : DimensionParameter) → IsLength (dimension_of plain_params parameter)
+unfolding plain_params
+plain_dimensions Hsize = record { low = omega (arith, ints); high = omega (arith, ints) }
+plain_dimensions _ = record { low = omega (arith, ints); high = omega (arith, ints) }
+
+plain_glues : (parameter : GlueParameter) → IsGlue (glue_of plain_params parameter)
+unfolding plain_params
+plain_glues Baselineskip = record {
+  width = record { low = omega (arith, ints); high = omega (arith, ints) };
+  stretch = record { low = omega (arith, ints); high = omega (arith, ints) };
+  shrink = record { low = omega (arith, ints); high = omega (arith, ints) };
+}
+plain_glues _ = record {
+  width = record { low = omega (arith, ints); high = omega (arith, ints) };
+  stretch = record { low = omega (arith, ints); high = omega (arith, ints) };
+  shrink = record { low = omega (arith, ints); high = omega (arith, ints) };
+}
 
 pub plain_params_fit : ParamsFit plain_params
-unfolding plain_params
-plain_params_fit = record {
-  pretolerance = natural_number 100 (lit≤ tt);
-  tolerance = natural_number 200 (lit≤ tt);
-  linepenalty = natural_number 10 (lit≤ tt);
-  hyphenpenalty = natural_number 50 (lit≤ tt);
-  exhyphenpenalty = natural_number 50 (lit≤ tt);
-  adjdemerits = natural_number 10000 (lit≤ tt);
-  doublehyphendemerits = natural_number 10000 (lit≤ tt);
-  finalhyphendemerits = natural_number 5000 (lit≤ tt);
-  lefthyphenmin = natural_number 2 (lit≤ tt);
-  righthyphenmin = natural_number 3 (lit≤ tt);
-  pdfprotrudechars = natural_number 0 (lit≤ tt);
-  pdfadjustspacing = natural_number 0 (lit≤ tt);
-  looseness = natural_number 0 (lit≤ tt);
-  hangafter = natural_number 1 (lit≤ tt);
-  hsize = natural_length 30785863 (lit≤ tt);
-  parindent = natural_length (65536 * 20) (lit≤ tt);
-  lineskiplimit = nothing;
-  emergencystretch = nothing;
-  hangindent = nothing;
-  baselineskip = rigid_bounded (65536 * 12) (lit≤ tt);
-  lineskip = rigid_bounded (65536 * 1) (lit≤ tt);
-  parfillskip = record { width = nothing; stretch = natural_length (65536 * 1) (lit≤ tt); shrink = nothing };
-  leftskip = rigid_bounded 0 (lit≤ tt);
-  rightskip = rigid_bounded 0 (lit≤ tt);
-  spaceskip = rigid_bounded 0 (lit≤ tt);
-  xspaceskip = rigid_bounded 0 (lit≤ tt);
-}
+plain_params_fit = record { integers = plain_integers; dimensions = plain_dimensions; glues = plain_glues }

@@ -6,3 +6,4 @@ pub mod JobOnce
 pub mod PartsFitting
 pub mod PlainText
 pub mod ShapesFitting
+pub mod PlainParts

@@ -1,4 +1,5 @@
 -- The tables and the parameters, and what assigns them (TeX: The Program, sections 1228 to 1234).
+-- A new parameter has two lines here: its value, and the assignment.
 use Rattle.std.specs.Prelude.{ℕ, ℤ, pos, List, slice_set, Ok}
 use Rattle.micro_num.specs.declared.tables.Tables.{Tables}
 use Rattle.micro_num.specs.declared.params.Params.{Params}
@@ -28,6 +29,40 @@ lower_case end tables toks =
     natural 0 255 end (equals code.1) >>= λ lower.
     Ok (record { sfcode = tables.sfcode; lccode = slice_set tables.lccode code.0 lower.0 }, lower.1)
 
+-- the value of a parameter
+abbrev pub integer_of : Params → IntegerParameter → ℤ
+integer_of params Pretolerance = params.pretolerance
+integer_of params Tolerance = params.tolerance
+integer_of params Linepenalty = params.linepenalty
+integer_of params Hyphenpenalty = params.hyphenpenalty
+integer_of params Exhyphenpenalty = params.exhyphenpenalty
+integer_of params Adjdemerits = params.adjdemerits
+integer_of params Doublehyphendemerits = params.doublehyphendemerits
+integer_of params Finalhyphendemerits = params.finalhyphendemerits
+integer_of params Lefthyphenmin = params.lefthyphenmin
+integer_of params Righthyphenmin = params.righthyphenmin
+integer_of params Pdfprotrudechars = params.pdfprotrudechars
+integer_of params Pdfadjustspacing = params.pdfadjustspacing
+integer_of params Looseness = params.looseness
+integer_of params Hangafter = params.hangafter
+
+abbrev pub dimension_of : Params → DimensionParameter → ℤ
+dimension_of params Hsize = params.hsize
+dimension_of params Parindent = params.parindent
+dimension_of params Lineskiplimit = params.lineskiplimit
+dimension_of params Emergencystretch = params.emergencystretch
+dimension_of params Hangindent = params.hangindent
+
+abbrev pub glue_of : Params → GlueParameter → Glue
+glue_of params Baselineskip = params.baselineskip
+glue_of params Lineskip = params.lineskip
+glue_of params Parfillskip = params.parfillskip
+glue_of params Leftskip = params.leftskip
+glue_of params Rightskip = params.rightskip
+glue_of params Spaceskip = params.spaceskip
+glue_of params Xspaceskip = params.xspaceskip
+
+-- the parameters with a value assigned to one
 abbrev pub with_integer : IntegerParameter → ℤ → Params → Params
 with_integer Pretolerance value params = record params { pretolerance = value }
 with_integer Tolerance value params = record params { tolerance = value }

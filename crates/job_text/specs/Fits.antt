@@ -11,6 +11,10 @@ use Rattle.job_text.specs.declared.job.Job.{Job}
 use Rattle.micro_num.specs.declared.shape.ShapeLine.{ShapeLine}
 use Rattle.micro_num.specs.Shape.{IsShapeLine}
 use Rattle.job_reading.specs.Bounds.{IsNumber, IsLength, IsGlue}
+use Rattle.job_reading.specs.declared.word.IntegerParameter.{IntegerParameter}
+use Rattle.job_reading.specs.declared.word.DimensionParameter.{DimensionParameter}
+use Rattle.job_reading.specs.declared.word.GlueParameter.{GlueParameter}
+use Rattle.job_text.specs.Assignments.{integer_of, dimension_of, glue_of}
 
 -- a letter, a digit or `-`
 abbrev pub is_file_byte : ℕ → Bool
@@ -22,33 +26,11 @@ pub record IsFileName (name : List ℕ) : Type 0 where
   pub short : length name ≤ 40
   pub bytes : All (λ code. is_file_byte code ≡ true) name
 
+-- each parameter is bounded as what is read for one of its kind
 pub record ParamsFit (params : Params) : Type 0 where
-  pub pretolerance : IsNumber params.pretolerance
-  pub tolerance : IsNumber params.tolerance
-  pub linepenalty : IsNumber params.linepenalty
-  pub hyphenpenalty : IsNumber params.hyphenpenalty
-  pub exhyphenpenalty : IsNumber params.exhyphenpenalty
-  pub adjdemerits : IsNumber params.adjdemerits
-  pub doublehyphendemerits : IsNumber params.doublehyphendemerits
-  pub finalhyphendemerits : IsNumber params.finalhyphendemerits
-  pub lefthyphenmin : IsNumber params.lefthyphenmin
-  pub righthyphenmin : IsNumber params.righthyphenmin
-  pub pdfprotrudechars : IsNumber params.pdfprotrudechars
-  pub pdfadjustspacing : IsNumber params.pdfadjustspacing
-  pub looseness : IsNumber params.looseness
-  pub hangafter : IsNumber params.hangafter
-  pub hsize : IsLength params.hsize
-  pub parindent : IsLength params.parindent
-  pub lineskiplimit : IsLength params.lineskiplimit
-  pub emergencystretch : IsLength params.emergencystretch
-  pub hangindent : IsLength params.hangindent
-  pub baselineskip : IsGlue params.baselineskip
-  pub lineskip : IsGlue params.lineskip
-  pub parfillskip : IsGlue params.parfillskip
-  pub leftskip : IsGlue params.leftskip
-  pub rightskip : IsGlue params.rightskip
-  pub spaceskip : IsGlue params.spaceskip
-  pub xspaceskip : IsGlue params.xspaceskip
+  pub integers : (parameter : IntegerParameter) → IsNumber (integer_of params parameter)
+  pub dimensions : (parameter : DimensionParameter) → IsLength (dimension_of params parameter)
+  pub glues : (parameter : GlueParameter) → IsGlue (glue_of params parameter)
 
 -- a shape has at most 1024 lines, with an indent and a width of less than 2^30 sp either way
 pub record ShapeFits (shape : List ShapeLine) : Type 0 where

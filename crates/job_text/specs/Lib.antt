@@ -1,6 +1,7 @@
 pub mod Names
 pub mod Discretionaries
 pub mod Parts
+pub mod PlainParts
 pub mod Shapes
 pub mod Fonts
 pub mod FontWords

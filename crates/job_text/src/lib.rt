@@ -25,6 +25,7 @@ mod paragraph;
 mod parameters;
 mod part;
 mod patterns;
+mod plain;
 mod reader;
 mod setting;
 mod shape;

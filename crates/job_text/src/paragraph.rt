@@ -13,8 +13,8 @@ use crate::names::Names;
 use crate::part::part;
 use crate::setting::Setting;
 use items::Items;
-use job_reading::{JobFault, Lexeme, Rest, Source, Token};
-use micro_num::{NoMemory, Part, PartAt};
+use job_reading::{JobFault, Rest, Source, Token};
+use micro_num::{NoMemory, PartAt};
 use std::alloc::Global;
 
 /// The room for parts that a paragraph begins with, so that the list of most is never moved.
@@ -99,13 +99,18 @@ fn parts<'a>(
             return Ok(more);
         }
         let behind = part(alloc, source, names, setting, token, tail)?;
-        more = plain_parts(setting, behind)?;
+        more = plain_parts(alloc, setting, behind)?;
     }
     Ok(more)
 }
 
-/// The parts of plain text, as far as it goes, and the tokens behind it. It needs a current font.
-fn plain_parts<'a>(setting: &mut Setting, rest: Rest<'a>) -> Result<Rest<'a>, NoMemory>
+/// The parts of the plain text that comes first, and the tokens behind it. Without a current font
+/// there is none.
+fn plain_parts<'a>(
+    alloc: Global,
+    setting: &mut Setting,
+    rest: Rest<'a>,
+) -> Result<Rest<'a>, NoMemory>
     ensures value { IfOk result (λ behind.
         GoesOnAs setting.old (left rest.entry) setting.new (left behind)) }
     ensures within { IfOk result (λ behind. length (left behind) ≤ length (left rest.entry)) }
@@ -113,14 +118,7 @@ fn plain_parts<'a>(setting: &mut Setting, rest: Rest<'a>) -> Result<Rest<'a>, No
     if setting.current.is_none() {
         return Ok(rest);
     }
-    let mut more = rest;
-    while let Some((token, tail)) = more.next_plain() {
-        match token.lexeme {
-            Lexeme::Char(code) => setting.add(token.from, Part::Char { code })?,
-            Lexeme::Space => setting.add(token.from, Part::Space)?,
-            _ => return Ok(more),
-        }
-        more = tail;
-    }
-    Ok(more)
+    let (text, behind) = rest.plain_text();
+    setting.add_plain(alloc, text)?;
+    Ok(behind)
 }

@@ -1,12 +1,15 @@
 //! A paragraph as far as it was read: its parts, the current font and the open groups.
 ghost use Rattle.job_reading.specs.Reading.{Gives};
-ghost use Rattle.std.specs.Prelude.{◌≡◌, OnOk};
+ghost use Rattle.std.specs.Prelude.{◌≡◌, ◌+◌, ◌<◌, ◌≤◌, ◌^◌, length, OnOk};
 ghost use Rattle.job_text.specs.Parts.{add_part, with_current, require_font};
+ghost use Rattle.job_text.specs.PlainParts.{plain_parts, add_parts};
 
 use crate::groups::Groups;
+use crate::plain::with_plain;
 use items::Items;
-use job_reading::{Fault, JobFaultKind, Token};
+use job_reading::{Fault, JobFaultKind, PlainText, Token};
 use micro_num::{NoMemory, Part, PartAt};
+use std::alloc::Global;
 
 /// A paragraph as far as it was read.
 #[derive(Drop)]
@@ -24,6 +27,18 @@ impl Setting {
         ensures { OnOk result (self.new ≡ add_part self.old offset part) }
     {
         self.parts.push(PartAt { offset, part })?;
+        Ok(())
+    }
+
+    /// The parts of plain text.
+    pub(crate) fn add_plain(&mut self, alloc: Global, text: PlainText) -> Result<(), NoMemory>
+        requires within { text.from + text.count ≤ length text.bytes.now }
+        requires small { length text.bytes.now < 2 ^ 32 }
+        ensures { OnOk result (self.new ≡ add_parts self.old
+            (plain_parts text.entry.bytes.now text.entry.from text.entry.count)) }
+    {
+        let parts = std::mem::replace(&mut self.parts, Items::new(alloc));
+        self.parts = with_plain(parts, text)?;
         Ok(())
     }
 

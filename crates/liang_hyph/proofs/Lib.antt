@@ -4,3 +4,4 @@ pub mod GreatestLemmas
 pub mod PlaceLemmas
 pub mod MergeLemmas
 pub mod TableLemmas
+pub mod SilentTables

@@ -59,6 +59,10 @@ places_read table word left right =
     places_within (length word) left right
     (λ h. is_break (lookup (bytes_eq word) table.exceptions) (value_read table word h) h)
 
+-- no word has a place
+abbrev pub IsSilent : PatternTable → Type 0
+IsSilent table = (word : List ℕ) (left right : ℤ) → places_read table word left right ≡ []
+
 -- no part of a word with more than `longest` letters has a value in the table
 abbrev pub IsSilentPast : ℕ → PatternTable → Type 0
 IsSilentPast longest table =

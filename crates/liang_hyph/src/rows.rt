@@ -1,5 +1,5 @@
 //! Tables of patterns: the values at the places of each list of letters.
-ghost use Rattle.std.specs.Prelude.{◌≡◌, [], IfOk, OnOk};
+ghost use Rattle.std.specs.Prelude.{◌≡◌, [], IfOk, OnOk, true};
 ghost use Rattle.std.specs.Map.{lookup};
 ghost use Rattle.std.specs.Option.{option_copied};
 ghost use Rattle.std.specs.Str.{bytes_eq};
@@ -33,6 +33,13 @@ impl Rows {
         Rows {
             map: IndexMap::new(alloc),
         }
+    }
+
+    /// Whether there are no rows.
+    pub(crate) fn is_empty(&self) -> bool
+        ensures { result ≡ true → self.now ≡ [] }
+    {
+        self.map.is_empty()
     }
 
     /// The row under the letters, if there is one.

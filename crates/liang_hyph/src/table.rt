@@ -1,13 +1,14 @@
 //! Patterns and exceptions ready to be looked up, and the hyphen places of a word by them (TeX: The
 //! Program, part 40; Liang, Word hy-phen-a-tion by com-put-er).
 ghost use Rattle.std.specs.Prelude.{◌≡◌, ◌==◌, ◌+◌, ◌-◌, ◌%◌, ◌<◌, ◌≤◌, ℕ, max, length, slice_index, IfOk};
+ghost use Rattle.std.specs.Prelude.{true};
 ghost use Rattle.std.specs.List.{All};
 ghost use Rattle.std.specs.List.Sorted.{IsStrictlyIncreasing};
 ghost use Rattle.std.specs.Map.{lookup};
 ghost use Rattle.std.specs.Str.{bytes_eq};
 ghost use Rattle.liang_hyph.specs.Greatest.{greatest_below};
 ghost use Rattle.liang_hyph.specs.Places.{is_break};
-ghost use Rattle.liang_hyph.specs.Table.{IsMadeOf, places_read, value_read, value_of_part};
+ghost use Rattle.liang_hyph.specs.Table.{IsMadeOf, IsSilent, places_read, value_read, value_of_part};
 
 use crate::merge::{list_exceptions, longest, merge};
 use crate::rows::Rows;
@@ -69,6 +70,18 @@ impl Patterns {
             exceptions: list_exceptions(alloc, exceptions)?,
             longest: longest(patterns),
         })
+    }
+
+    /// Whether there are no patterns and no exceptions. Then no word may be hyphenated.
+    pub fn is_empty(&self) -> bool
+        ensures { result ≡ true → IsSilent self.now }
+    {
+        let anywhere = self.anywhere.is_empty();
+        let at_start = self.at_start.is_empty();
+        let at_end = self.at_end.is_empty();
+        let as_word = self.as_word.is_empty();
+        let exceptions = self.exceptions.is_empty();
+        anywhere & at_start & at_end & as_word & exceptions
     }
 
     /// The places of a word of 1 to 63 letters where it may be hyphenated, ascending. A place is

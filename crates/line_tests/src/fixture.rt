@@ -10,31 +10,13 @@ use items::Items;
 use micro_num::Glue;
 use std::alloc::{AllocError, Global};
 use std::test::Fail;
+use test_fonts::{HALF, kerned10};
 use tfm_read::{Tfm, TfmFault, read_tfm};
 
 /// The metrics of a font of the codes 33 to 126, each half a design size wide and high, with a kern
 /// of -1/16 of the design size.
 fn metrics(alloc: Global) -> Result<Tfm, TfmFault> {
-    let mut words: Vec<u32> = vec![in alloc;
-        116 << 16 | 2,
-        33 << 16 | 126,
-        2 << 16 | 2,
-        1 << 16 | 1,
-        1,
-        7,
-        0,
-        10485760,
-    ]?;
-    for _ in 33..127 {
-        words.push(0x01100000)?;
-    }
-    words.extend_from_slice(&[0, 524288, 0, 524288, 0, 0, 0xffff0000])?;
-    words.extend_from_slice(&[0, 262144, 131072, 65536, 524288, 1048576, 0])?;
-    let mut bytes = Vec::new(alloc);
-    for word in &words {
-        bytes.extend_from_slice(&word.to_be_bytes())?;
-    }
-    read_tfm(alloc, &bytes)
+    read_tfm(alloc, &kerned10(alloc, HALF, 0xffff0000)?)
 }
 
 /// That font at 10 points, 20 thousandths wider or narrower at most, in steps of 1; the letter a

@@ -32,7 +32,8 @@ use Rattle.hlist_build.specs.Given.{behind, joined, space_in, normal_in, tie_in,
 use Rattle.hlist_build.specs.Mixing.{stands_in, standing, expanding_of, expanding, expand_alike, other_than, first_other, mixed}
 use Rattle.hlist_build.specs.Paragraph.{indent_items, without_last_glue, ended, most_items, counted, finished, by_mixed, set_items, list_of}
 use Rattle.hlist_build.specs.Parts.{run_codes, goes_on, factor_before, font_after, font_before}
-use Rattle.hlist_build.specs.Runs.{left_of, sub_of, subs_of, item_of, ends_in_hyphen, empty_disc, with_break, run_items, run_end, run_given, list_end, list_given, disc_end, disc_given, hyphen_sub, hyphen_disc, in_font, run_in}
+use Rattle.hlist_runs.specs.Runs.{left_of, sub_of, subs_of}
+use Rattle.hlist_build.specs.Runs.{item_of, ends_in_hyphen, empty_disc, with_break, run_items, run_end, run_given, list_end, list_given, disc_end, disc_given, hyphen_sub, hyphen_disc, in_font, run_in}
 use Rattle.hlist_build.specs.Spaces.{normal_space, extra_space, current_in}
 use Rattle.hlist_build.specs.declared.current.Current.{Current}
 use Rattle.hlist_build.specs.declared.fault.ParFault.{ParFault}

@@ -8,26 +8,26 @@
 #![tactic(auto)]
 
 mod plain_pass;
-mod stock;
 
-ghost use Rattle.std.specs.Prelude.{◌≡◌, All, IsTrue, length};
+ghost use Rattle.std.specs.Prelude.{All, length};
 ghost use Rattle.font_stock.specs.Sizes.{IsSize};
 ghost use Rattle.hlist.specs.Bounds.{IsSmall, IsListOf};
 ghost use Rattle.hlist_build.specs.Parts.{NamesFont};
 
 use crate::plain_pass::copied;
-use crate::stock::{file_bytes, stock_of};
 use font_stock::Stock;
 use hlist::{HList, Item};
-use hlist_build::{ParFault, build};
+use hlist_build::build;
 use hlist_hyph::hyphenated;
 use job_text::{Job, read_job};
 use liang_hyph::Patterns;
-use micro_num::{NoMemory, Par, Params, Part, PartAt, Tables};
+use micro_num::{Par, Params, Tables};
 use std::alloc::Global;
 use std::io;
 use std::rt::Files;
 use std::time::{Clock, Instant};
+use test_jobs::name_fonts;
+use timed_jobs::{file_bytes, lost, no_memory, since, stock_of};
 
 /// What all paragraphs came to.
 #[derive(Drop)]
@@ -39,41 +39,6 @@ struct Totals {
     plain: u64,
 }
 
-/// Whether a part names a font of the stock, if it names one.
-fn names_font(stock: &Stock, part: &Part) -> bool
-    ensures { IsTrue result → NamesFont (length stock.now) part.now }
-{
-    match part {
-        Part::Font { font } => *font < stock.count(),
-        _ => true,
-    }
-}
-
-/// Whether each part names a font of the stock, if it names one.
-fn name_fonts(stock: &Stock, parts: &[PartAt]) -> bool
-    ensures { IsTrue result → All (λ one. NamesFont (length stock.now) one.part) parts.now }
-{
-    for one in parts {
-        if !names_font(stock, &one.part) {
-            return false;
-        }
-    }
-    true
-}
-
-/// A list that can't be had for want of memory, or for a fault, ends the run.
-fn lost(fault: ParFault) -> io::Error {
-    match fault {
-        ParFault::NoMemory => io::Error::from(io::ErrorKind::OutOfMemory),
-        _ => io::Error::from(io::ErrorKind::InvalidData),
-    }
-}
-
-/// What can't be had for want of memory ends the run.
-fn no_memory(_fault: NoMemory) -> io::Error {
-    io::Error::from(io::ErrorKind::OutOfMemory)
-}
-
 /// How many discretionaries there are.
 fn count_discs(items: &[Item]) -> u64 {
     let mut count: u64 = 0;
@@ -83,11 +48,6 @@ fn count_discs(items: &[Item]) -> u64 {
         }
     }
     count
-}
-
-/// The nanoseconds since a moment.
-fn since<C: Clock>(clock: &C, start: &Instant) -> io::Result<u64> {
-    Ok(u64::try_from(start.elapsed(clock)?.as_nanos()).unwrap_or(u64::MAX))
 }
 
 /// The hyphenated form of a list of the stock.

@@ -49,10 +49,6 @@ pub record IsAsked (shelf later : ShelfState) : Type 0 where
 
 -- ---- one font
 
-pub font_unread : (number : ℕ) (decl : FontDecl) (shelf : ShelfState) → shelf.calls < 2 ^ 64 → FontStops number decl shelf shelf (stop_of NoMemory)
-font_unread number decl shelf fits = λ finish job stock decls count.
-    finds_no_memory (number + 1) (FontsFrom finish job stock (decl ∷ decls)) shelf fits
-
 pub font_missed : (number : ℕ) (decl : FontDecl) (name : List ℕ) (shelf later : ShelfState) (stop : Stop) → name ≡ file_of decl → IsAsked shelf later → Misses name (number + 1) shelf later stop → FontStops number decl shelf later stop
 font_missed number decl name shelf later stop e asked misses = λ finish job stock decls count.
     finds_missed (number + 1) (FontsFrom finish job stock (decl ∷ decls)) name shelf later stop (ap Wants e) asked.stays asked.called misses

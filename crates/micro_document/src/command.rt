@@ -56,6 +56,7 @@ fn from_job<R: Threads + Sync, S: Shelf, G: Gate + Sync>(
         (S.state shelf.old) (S.state shelf.new) result }
     ensures workers { IfOk result (IsMadeBy crew.now.workers) }
 {
+    // Named arms and not `?`, since a clause speaks of the shelf at these errors.
     let job = match job_of(alloc, bytes) {
         Ok(job) => job,
         Err(answer) => return Err(Stop::of(answer)),
@@ -84,6 +85,7 @@ fn from_file<R: Threads + Sync, S: Shelf, G: Gate + Sync>(
         (S.state shelf.old) (S.state shelf.new) result }
     ensures workers { IfOk result (IsMadeBy crew.now.workers) }
 {
+    // A named arm and not `?`, since a clause speaks of the shelf at this error.
     let bytes = match read_file(alloc, name, 0, shelf) {
         Ok(bytes) => bytes,
         Err(stop) => return Err(stop),

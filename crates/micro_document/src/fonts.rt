@@ -46,6 +46,7 @@ fn one_font<S: Shelf>(
     let Ok(name) = file_name(alloc, decl) else {
         return Err(Stop::of(Answer::NoMemory));
     };
+    // Named arms and not `?`, since a clause speaks of the shelf at these errors.
     let bytes = match read_file(alloc, name.as_str(), number + 1, shelf) {
         Ok(bytes) => bytes,
         Err(stop) => return Err(stop),

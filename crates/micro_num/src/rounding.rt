@@ -47,6 +47,9 @@ pub fn thousandths(n: i64, k: i64) -> i64
     ensures exact { result ≡ thousandths_of n k }
     ensures within { unsigned_abs k ≤ 1000 → unsigned_abs result ≤ unsigned_abs n }
 {
+    if k == 0 {
+        return 0;
+    }
     let magnitude = thousandths_up(n.unsigned_abs(), k.unsigned_abs());
     if (n < 0) == (k < 0) {
         magnitude as i64
@@ -63,7 +66,11 @@ fn thousandths_up(n: u64, k: u64) -> u64
     ensures small { result ≤ 2 ^ 56 }
     ensures within { k ≤ 1000 → result ≤ n }
 {
-    ((n as u128 * k as u128 + 500) / 1000) as u64
+    if k <= 1 << 30 {
+        (n * k + 500) / 1000
+    } else {
+        ((n as u128 * k as u128 + 500) / 1000) as u64
+    }
 }
 
 /// `n / d` rounded to the nearest whole number, a half up.

@@ -5,12 +5,10 @@
 //! are compared with those over a source that computes each width.
 #![tactic(auto)]
 
-mod document;
 mod pages;
 #[cfg(test)]
 mod races;
 mod worker;
 
-pub use document::{Document, fonts_of, read_document};
 pub use pages::{plain_pages, same_page};
 pub use worker::right_pages_of_worker;

@@ -3,12 +3,12 @@ ghost use Rattle.std.specs.Prelude.{◌≡◌, All, length, map};
 ghost use Rattle.hpack_two.specs.Over.{base_of};
 ghost use Rattle.para_workers.specs.Pages.{IsSettable};
 
-use crate::document::Document;
 use hlist_build::ParFault;
 use instance_core::{Packed, Page, PageLine, WidthSource};
 use micro_num::Par;
 use para_workers::set_par;
 use std::alloc::Global;
+use test_jobs::Document;
 
 /// Whether two set lines have the same glyphs at the same places, and the same size.
 fn same_line(one: &Packed, other: &Packed) -> bool {
@@ -44,15 +44,15 @@ pub fn plain_pages<W: WidthSource>(
     document: &Document,
     source: &mut W,
 ) -> Result<Vec<Page>, ParFault>
-    requires settable { All (IsSettable (length document.now.stock)) document.now.pars }
+    requires settable { All (IsSettable (length document.now.stock)) document.now.job.pars }
     requires bases { W.bases source.old ≡ map base_of document.now.stock }
 {
-    let mut pages = Vec::with_capacity(alloc, document.pars.len())?;
-    for par in document.pars.as_slice() {
+    let mut pages = Vec::with_capacity(alloc, document.job.pars.len())?;
+    for par in document.job.pars.as_slice() {
         let page = set_par(
             alloc,
             par,
-            &document.tables,
+            &document.job.tables,
             &document.patterns,
             &document.stock,
             source,

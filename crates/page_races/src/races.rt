@@ -4,17 +4,18 @@ ghost use Rattle.hpack_two.specs.Over.{base_of};
 ghost use Rattle.para_workers.specs.Pages.{IsSettable};
 ghost use Rattle.table_widths.specs.Widths.{IsIdle};
 
-use crate::{Document, plain_pages, read_document, right_pages_of_worker};
+use crate::{plain_pages, right_pages_of_worker};
 use hpack_two::bases_of;
 use instance_core::{Bases, Cell, Page, PlainWidths};
 use instance_table::{InstanceTable, Seat};
 use micro_num::NoMemory;
-use std::alloc::{AllocError, Global};
+use std::alloc::Global;
 use std::test::*;
 use std::thread;
 use std::thread::Threads;
 use table_races::split_seats;
 use test_fonts::{lig10, tiny10};
+use test_jobs::{Document, EXPANDED, NARROW_AND_WIDE, long_job, read_document};
 use width_races::HoldingGate;
 
 /// How often each job is raced for.
@@ -48,7 +49,7 @@ fn crew<R: Threads + Sync>(
     pages: &[Page],
     gate: &HoldingGate,
 ) -> Result<Vec<u32>, NoMemory>
-    requires settable { All (IsSettable (length document.now.stock)) document.now.pars }
+    requires settable { All (IsSettable (length document.now.stock)) document.now.job.pars }
     requires idle { All (IsIdle table.now) seats.items }
     requires bases { table.now.bases ≡ map base_of document.now.stock }
 {
@@ -56,7 +57,7 @@ fn crew<R: Threads + Sync>(
         rt,
         seats,
         &|seat: Seat| -> u32
-            requires { All (IsSettable (length document.now.stock)) document.now.pars
+            requires { All (IsSettable (length document.now.stock)) document.now.job.pars
                 × (IsIdle table.now seat × (table.now.bases ≡ map base_of document.now.stock)) }
         { right_pages_of_worker(alloc, table, seat, document, pages, gate) },
     )?;
@@ -72,7 +73,7 @@ fn raced<R: Threads + Sync>(
     pages: &[Page],
     asked: &[Cell],
 ) -> Result<Round, NoMemory>
-    requires settable { All (IsSettable (length document.now.stock)) document.now.pars }
+    requires settable { All (IsSettable (length document.now.stock)) document.now.job.pars }
     requires bases { bases.now ≡ map base_of document.now.stock }
 {
     let (table, mut first) = InstanceTable::make(alloc, bases, 0)?;
@@ -119,56 +120,20 @@ fn race_for<R: Threads + Sync>(
     Ok(cells)
 }
 
-const WIDE: &[u8] = b"\\font\\f=tiny10 \\f
-\\hsize=24pt \\pdffontexpand\\f 20 20 1 \\pdfadjustspacing=2
-\\noindent aa bb cc dd
-";
-
+/// A paragraph whose letters a have no share in the expansion.
 const WITHOUT_SHARE: &[u8] = b"\\font\\f=tiny10 \\f
 \\hsize=24pt \\pdffontexpand\\f 20 20 1 \\pdfadjustspacing=2 \\efcode\\f 97=0
 \\noindent aa bb cc dd
-";
-
-const TWO: &[u8] = b"\\font\\f=tiny10 \\f
-\\hsize=22pt \\pdffontexpand\\f 20 20 1 \\pdfadjustspacing=2
-\\noindent aa bb cc dd
-
-\\hsize=24pt \\noindent aa bb cc dd
 ";
 
 #[test]
 fn four_threads_set_the_pages_of_short_jobs_as_one_does(rt: HostRuntime) -> Result<(), Fail> {
     let alloc = rt.alloc();
     let font = tiny10(alloc)?;
-    assert_eq!(rt; race_for(&rt, alloc, WIDE, &font, 1)?, 1);
+    assert_eq!(rt; race_for(&rt, alloc, EXPANDED, &font, 1)?, 1);
     assert_eq!(rt; race_for(&rt, alloc, WITHOUT_SHARE, &font, 1)?, 1);
-    assert_eq!(rt; race_for(&rt, alloc, TWO, &font, 2)?, 2);
+    assert_eq!(rt; race_for(&rt, alloc, NARROW_AND_WIDE, &font, 2)?, 2);
     Ok(())
-}
-
-const SETTINGS: &[u8] = b"\\font\\f=lig10 \\font\\g=lig10 at 12pt \\f
-\\pdffontexpand\\f 20 20 1 \\pdffontexpand\\g 20 20 1
-\\patterns{hy3ph he2n hena4 hen5at 1na n2at 1tio 2io}
-\\pdfprotrudechars=2 \\pdfadjustspacing=2 \\hsize=345pt \\tolerance=2000
-";
-
-/// Twenty words, of which four are in the other font.
-const SENTENCE: &[u8] = b"a program that looks at a whole paragraph takes the places, \
-{\\g which give the best,} all of them together, hyphenation helps. ";
-
-/// A job of three paragraphs of eighty words, in two fonts.
-fn long_job(alloc: Global) -> Result<Vec<u8>, AllocError> {
-    let mut job = Vec::from_slice(alloc, SETTINGS)?;
-    for paragraph in 0..3u32 {
-        for _word in 0..paragraph {
-            job.extend_from_slice(b"or ")?;
-        }
-        for _sentence in 0..4u32 {
-            job.extend_from_slice(SENTENCE)?;
-        }
-        job.extend_from_slice(b"\n\n")?;
-    }
-    Ok(job)
 }
 
 #[test]

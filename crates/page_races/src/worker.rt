@@ -4,13 +4,13 @@ ghost use Rattle.hpack_two.specs.Over.{base_of};
 ghost use Rattle.para_workers.specs.Pages.{IsSettable};
 ghost use Rattle.table_widths.specs.Widths.{IsIdle};
 
-use crate::document::Document;
 use crate::pages::same_page;
 use instance_core::{Page, WidthSource};
 use instance_table::{InstanceTable, Seat};
 use para_workers::set_par;
 use std::alloc::Global;
 use table_widths::TableWidths;
+use test_jobs::Document;
 use width_races::HoldingGate;
 
 /// Sets all paragraphs, forwards or backwards, and gives how many of the pages are those told.
@@ -22,10 +22,10 @@ fn right_pages<W: WidthSource>(
     source: &mut W,
     gate: &HoldingGate,
 ) -> u32
-    requires settable { All (IsSettable (length document.now.stock)) document.now.pars }
+    requires settable { All (IsSettable (length document.now.stock)) document.now.job.pars }
     requires bases { W.bases source.old ≡ map base_of document.now.stock }
 {
-    let pars = document.pars.as_slice();
+    let pars = document.job.pars.as_slice();
     let mut right = 0u32;
     for turn in 0..pars.len() {
         let index = if backwards {
@@ -36,7 +36,7 @@ fn right_pages<W: WidthSource>(
         let page = set_par(
             alloc,
             &pars[index],
-            &document.tables,
+            &document.job.tables,
             &document.patterns,
             &document.stock,
             source,
@@ -61,7 +61,7 @@ pub fn right_pages_of_worker(
     pages: &[Page],
     gate: &HoldingGate,
 ) -> u32
-    requires settable { All (IsSettable (length document.now.stock)) document.now.pars }
+    requires settable { All (IsSettable (length document.now.stock)) document.now.job.pars }
     requires idle { IsIdle table.now seat }
     requires bases { table.now.bases ≡ map base_of document.now.stock }
 {

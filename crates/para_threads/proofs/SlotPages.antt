@@ -8,12 +8,15 @@
 --     pages-count                        and they are as many
 --     all-full                           the slots of paragraphs that were set are full
 --     job-told, job-refused              what a job comes to whose slots these are
+--     owners-used                        who has owners where each slot has a page
 use Rattle.std.proofs.Common.{◌≡◌, ℕ, ◌+◌, refl, ap, sym, ◌∙◌, subst, List, [], ◌∷◌, ◌++◌, append_assoc, append-nil, map, set, length, All, Some, None, Result, Ok, Err}
 use Rattle.std.proofs.lemmas.List.{length-map}
 use Rattle.std.proofs.lemmas.List.Elements.{All-nil, All-cons, All-head, All-tail}
 use Rattle.font_stock.specs.declared.font.Font.{Font}
 use Rattle.micro_num.specs.declared.paragraph.Par.{Par}
 use Rattle.hlist_build.specs.declared.fault.ParFault.{ParFault}
+use Rattle.instance_core.specs.declared.font.BaseFont.{BaseFont}
+use Rattle.instance_core.specs.declared.page.Owner.{Owner}
 use Rattle.instance_core.specs.declared.page.Page.{Page}
 use Rattle.job_text.specs.declared.job.Job.{Job}
 use Rattle.para_workers.specs.declared.fault.ParAt.{ParAt}
@@ -22,7 +25,8 @@ use Rattle.para_workers.specs.declared.fault.SetFault.{SetFault}
 use Rattle.para_workers.specs.declared.fault.SetFault.TheVariants.{Par as par_fault, NoMemory}
 use Rattle.para_workers.specs.Pages.{SetsPages, page_of_one, pages_from, pages_of, pages_with, places_for}
 use Rattle.para_threads.specs.declared.done.DoneAt.{DoneAt}
-use Rattle.para_threads.specs.SetJobs.{SetsJob}
+use Rattle.renumber.specs.Uses.{used}
+use Rattle.para_threads.specs.SetJobs.{Owns, SetsJob}
 use Rattle.para_threads.specs.Slots.{IsFull, IsSlotOver, Slot, filled, pages_in, slot_of}
 
 pub filled-none : (slots : List Slot) → filled slots [] ≡ slots
@@ -111,3 +115,8 @@ pub job-refused : (job : Job) (stock : List Font) (slots : List Slot) (fault : S
     → SetsPages (pages_in 1 slots) (Err fault) → SetsJob (pages_of job stock) (Err fault)
 job-refused job stock slots (par_fault at) is answer = sym (job-told job stock slots is) ∙ answer
 job-refused job stock slots NoMemory is answer = tt
+
+pub owners-used : (fonts : List BaseFont) (told : Result (List Page) ParAt) (pages : List Page) (owners : List Owner) → told ≡ Ok pages
+    → Owns fonts told owners → map (λ (owner : Owner). owner.cell) owners ≡ used fonts pages
+owners-used fonts (Ok all) pages owners is owns = let same : all ≡ pages = cc in owns ∙ ap (used fonts) same
+owners-used fonts (Err at) pages owners is owns = absurd cc

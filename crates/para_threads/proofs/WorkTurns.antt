@@ -127,11 +127,6 @@ draws-push number first before after done one is more =
     ∙ append_assoc first (drawn_by number done) (drawn_one number one ∷ [])
     ∙ ap (λ ds. first ++ ds) (sym (map-append (drawn_one number) done (one ∷ [])))
 
-pub draws-past : (number : ℕ) (first before after : List Drawn) (done : List DoneAt) (d : Drawn) → before ≡ first ++ drawn_by number done → after ≡ before ++ d ∷ []
-    → after ≡ first ++ (drawn_by number done ++ d ∷ [])
-draws-past number first before after done d is more =
-    more ∙ ap (λ ds. ds ++ d ∷ []) is ∙ append_assoc first (drawn_by number done) (d ∷ [])
-
 -- ---- one paragraph
 
 pub here-at : (pars lent : List Par) (place : ℕ) (par : Par) → lent ≡ pars → place < length pars → par ≡ get_or lent place par → slice_get pars place ≡ Some par

@@ -16,6 +16,7 @@ use Rattle.micro_num.specs.declared.part.Part.TheVariants.{Char, Space, Normal, 
 use Rattle.hlist_build.specs.Parts.{NamesFont}
 use Rattle.hlist_hyph.specs.Hyphenated.{Places, places_in}
 use Rattle.job_reading.specs.Bounds.{IsLength}
+use Rattle.job_reading.specs.declared.word.DimensionParameter.TheVariants.{Hsize, Hangindent}
 use Rattle.job_text.specs.Fits.{JobFits, PartsFit, NamesFont as names_font, is_font}
 use Rattle.job_text.specs.declared.job.Job.{Job}
 use Rattle.para_workers.specs.Pages.{IsSettable, places_for}
@@ -63,8 +64,8 @@ job-settable job fits = λ i d inside.
     record {
       names = names-all (length job.fonts) false _ (fits.pars i d inside);
       lengths = record {
-        hsize = short-length _ params.hsize;
-        hangindent = short-length _ params.hangindent;
+        hsize = short-length _ (params.dimensions Hsize);
+        hangindent = short-length _ (params.dimensions Hangindent);
         shape = shape.lines;
       };
       shape = omega (arith, shape.few);

@@ -2,6 +2,7 @@ pub mod LineTurns
 pub mod AskedCells
 pub mod LineCounts
 pub mod WholePages
+pub mod BrokenRules
 pub mod OneLine
 pub mod ChosenCells
 pub mod FittingPages

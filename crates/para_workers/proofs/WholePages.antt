@@ -7,14 +7,12 @@ use Rattle.font_stock.specs.declared.font.Font.{Font}
 use Rattle.hlist_hyph.specs.Hyphenated.{Places}
 use Rattle.micro_num.specs.declared.paragraph.Par.{Par}
 use Rattle.micro_num.specs.declared.params.Params.{Params}
-use Rattle.micro_num.specs.declared.shape.ShapeLine.{ShapeLine}
 use Rattle.micro_num.specs.declared.tables.Tables.{Tables}
 use Rattle.hlist_build.specs.declared.fault.ParFault.{ParFault}
 use Rattle.hlist_build.specs.declared.fault.ParFault.TheVariants.{OutOfRange, NoMemory}
 use Rattle.hlist.specs.declared.item.HList.{HList}
 use Rattle.hlist.specs.declared.item.Item.{Item}
 use Rattle.hlist_build.specs.Paragraph.{list_of}
-use Rattle.break_rule.specs.Fits.{Rule}
 use Rattle.break_rule.specs.declared.line.From.TheVariants.{Start}
 use Rattle.instance_core.specs.declared.cell.Cell.{Cell}
 use Rattle.instance_core.specs.declared.font.BaseFont.{BaseFont}
@@ -98,20 +96,6 @@ pub page-past : (params : Params) (lines : List Packed) (line : ℕ) → first_p
     → Err (OutOfRange line) ≡ stacked_in_range params lines
 unfolding stacked_in_range
 page-past params lines line past = sym (ap (λ o. out_of_range_or o (Ok (page_of params lines))) past)
-
--- the lines of the list that was broken are those of the paragraph
-pub all-lines : (par : Par) (tables : Tables) (places : Places) (stock : List Font) (items : List Item) (shape : List ShapeLine) (b : Broken)
-    (rule : Rule) (breaks : List ℕ) → shape ≡ par.shape
-    → IsBroken (record { items = items; params = par.params; shape = shape; tables = tables; places = places; stock = stock }) b
-    → rule ≡ rule_over b.list.items par.params shape stock false → breaks ≡ b.breaks
-    → set_lines rule 1 Start breaks ≡ lines_of (paragraph_of par tables places stock items)
-all-lines par tables places stock items shape b rule breaks own is rule_is breaks_are =
-    let with_shape : List ShapeLine → Paragraph
-    = λ s. record { items = items; params = par.params; shape = s; tables = tables; places = places; stock = stock } in
-    ap (λ (r : Rule). set_lines r 1 Start breaks) rule_is
-    ∙ ap (λ (bs : List ℕ). set_lines (rule_over b.list.items par.params shape stock false) 1 Start bs) breaks_are
-    ∙ lines-are (with_shape shape) b is
-    ∙ ap (λ s. lines_of (with_shape s)) own
 
 pub page-answer : (params : Params) (lines whole all : List Packed) (result : Result Page ParFault) → Gives Page result (stacked_in_range params lines)
     → lines ≡ whole → first_refused whole ≡ None → whole ≡ all → Gives Page result (page_by params all)

@@ -3,7 +3,6 @@
 --     page_of_one                the page of one paragraph, or its fault
 --     pages_from                 those of paragraphs of which the first has a number
 --     pages_of job stock         those of all, or the first paragraph that has none
---     set_fault                  the fault of a paragraph of a number
 --     SetsPages                  an answer is this, but for want of memory
 --     IsSettable count par       a paragraph of so many fonts, whose lengths are in range
 use Rattle.std.specs.Prelude.{◌≡◌, ⊤, ℕ, ◌+◌, ◌<◌, ◌^◌, List, [], ◌∷◌, length, All, Result, Ok, Err}
@@ -13,7 +12,6 @@ use Rattle.micro_num.specs.declared.params.Params.{Params}
 use Rattle.micro_num.specs.declared.tables.Tables.{Tables}
 use Rattle.hlist_build.specs.Parts.{NamesFont}
 use Rattle.hlist_build.specs.declared.fault.ParFault.{ParFault}
-use Rattle.hlist_build.specs.declared.fault.ParFault.TheVariants.{NoMemory as no_memory}
 use Rattle.hlist_hyph.specs.Hyphenated.{Places, places_by}
 use Rattle.instance_core.specs.declared.page.Page.{Page}
 use Rattle.job_text.specs.declared.job.Job.{Job}
@@ -47,11 +45,6 @@ pages_from tables places stock number (par ∷ pars) =
 -- paragraphs are numbered from 1
 abbrev pub pages_of : Job → List Font → Result (List Page) ParAt
 pages_of job stock = pages_from job.tables (places_for job) stock 1 job.pars
-
--- want of memory is none of a paragraph's faults
-abbrev pub set_fault : ℕ → ParFault → SetFault
-set_fault number no_memory = NoMemory
-set_fault number fault = par_fault (record { paragraph = number; fault = fault })
 
 abbrev pub SetsPages : Result (List Page) ParAt → Result (List Page) SetFault → Type 0
 SetsPages wanted (Ok pages) = wanted ≡ Ok pages

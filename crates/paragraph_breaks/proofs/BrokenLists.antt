@@ -9,16 +9,13 @@ use Rattle.line_break.specs.Pass.{Pass}
 use Rattle.line_break.specs.Taken.{Taken, first_taken}
 use Rattle.paragraph_breaks.specs.declared.broken.Breaks.{Breaks}
 use Rattle.paragraph_breaks.specs.declared.broken.Broken.{Broken}
-use Rattle.paragraph_breaks.specs.Outcome.{IsBroken}
+use Rattle.paragraph_breaks.specs.Outcome.{IsBroken, broken_as}
 use Rattle.paragraph_breaks.specs.Passes.{IsFirstTaken, Paragraph, early_passes, early_taken, first_pass, hyphenated_of, items_of, late_passes, late_taken, passes_of, taken_by, third_pass}
 use Rattle.paragraph_breaks.proofs.LeastTotals.{least_total, line_ends, taken_from}
 use Rattle.paragraph_breaks.proofs.TakenPasses.{first_among, none_among}
 
 pub whole : (p : Paragraph) (b : Broken) → IsFirstTaken p b → IsBroken p b
 whole p b taken = record { exact = taken; ends = line_ends p b taken; least = least_total p b taken }
-
-abbrev pub broken_as : HList → Breaks → Broken
-broken_as list b = record { list = list; pass = b.pass; breaks = b.places; total = b.total }
 
 -- the numbers of the passes
 module _ (p : Paragraph) where

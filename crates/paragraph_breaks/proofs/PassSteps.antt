@@ -2,6 +2,7 @@
 --     way_given              what a pass gives with a way, as places of its list
 --     places_legal           the places of a way that is taken are among the legal ones
 --     last_gives             the last pass gives something
+--     calm_rule              a rule in which the emergency stretch doesn't count
 --     no_early, one_early    the passes over a list as it stands
 --     late_second, late_third    the passes over a hyphenated list
 use Rattle.std.proofs.Common.{◌≡◌, ℕ, ◌-◌, ◌<◌, ◌≤◌, refl, ap, sym, ◌∙◌, cond, Bool, true, false, List, [], ◌∷◌, map, length, All, Option, Some, None, option_map, IsSome, ℤ, pos, int_le, int_lt, slice_index}
@@ -19,6 +20,10 @@ use Rattle.paragraph_breaks.specs.declared.broken.Breaks.{Breaks}
 use Rattle.paragraph_breaks.specs.Passes.{at_most_infinite, early_taken, first_pass, late_taken, rule_over, second_pass, taken_by, taken_way, third_pass}
 use Rattle.paragraph_breaks.proofs.TakenPasses.{final_gives, first_among, none_among, pass_final, pass_single, taken_among, taken_some}
 use Rattle.paragraph_breaks.proofs.WayPlaces.{all_within}
+
+pub calm_rule : (r : Rule) → r.emergency ≡ false → r ≡ rule_over r.items r.params r.shape r.stock false
+calm_rule r calm =
+    ap (λ (b : Bool). rule_over r.items r.params r.shape r.stock b) calm
 
 module _ (rule : Rule) (threshold : ℤ) (final : Bool) where
   pub places_legal : (l : ℤ) (w : Way) → Some w ≡ taken_way (pass_of rule threshold final) l

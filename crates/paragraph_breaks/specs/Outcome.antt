@@ -1,4 +1,6 @@
 -- How a paragraph is broken.
+--     broken_as              a list with its breaks
+--     without_emergency      a rule in which the emergency stretch doesn't count
 --     Rise                   each number is below the next one
 --     AreLineEnds            where its lines end
 --     IsRival                which ways its total is compared with
@@ -12,8 +14,16 @@ use Rattle.line_break.specs.Pass.{Pass}
 use Rattle.line_break.specs.Taken.{breaks_of, line_count}
 use Rattle.break_rule.specs.Fits.{Rule}
 use Rattle.break_rule.specs.Made.{IsPlace}
+use Rattle.hlist.specs.declared.item.HList.{HList}
+use Rattle.paragraph_breaks.specs.declared.broken.Breaks.{Breaks}
 use Rattle.paragraph_breaks.specs.declared.broken.Broken.{Broken}
 use Rattle.paragraph_breaks.specs.Passes.{IsFirstTaken, Paragraph, passes_of, rule_over}
+
+abbrev pub broken_as : HList → Breaks → Broken
+broken_as list b = record { list = list; pass = b.pass; breaks = b.places; total = b.total }
+
+abbrev pub without_emergency : Rule → Rule
+without_emergency rule = record rule { emergency = false }
 
 abbrev pub Rise : List ℕ → Type 0
 Rise xs = (k : ℕ) → k + 1 < length xs → slice_index xs k < slice_index xs (k + 1)

@@ -1,48 +1,66 @@
 //! Breaking a paragraph: the passes one after another (TeX: The Program, sections 863 and 873 to
 //! 875).
-ghost use Rattle.std.specs.Prelude.{◌≡◌, ◌<◌, ◌≤◌, ◌^◌, ◌∷◌, [], IfOk, Some, length, option_map};
-ghost use Rattle.std.specs.Prelude.{true, unsigned_abs};
+ghost use Rattle.std.specs.Prelude.{◌≡◌, ◌<◌, ◌≤◌, ◌^◌, ◌∷◌, [], IfNone, IfOk, IfSome, Some};
+ghost use Rattle.std.specs.Prelude.{None, false, int_le, int_lt, length, option_map, pos, true};
+ghost use Rattle.std.specs.Prelude.{unsigned_abs};
 ghost use Rattle.hlist.specs.Bounds.{IsInBounds, IsListOf, IsSmall};
 ghost use Rattle.hlist_hyph.specs.Hyphenated.{places_in};
 ghost use Rattle.line_break.specs.Taken.{first_taken};
 ghost use Rattle.break_pass.specs.Passes.{pass_of};
 ghost use Rattle.break_rule.specs.Over.{Share};
-ghost use Rattle.paragraph_breaks.specs.Outcome.{IsBroken};
-ghost use Rattle.paragraph_breaks.specs.Passes.{early_taken, late_taken, taken_by};
+ghost use Rattle.paragraph_breaks.specs.Outcome.{IsBroken, broken_as, without_emergency};
+ghost use Rattle.paragraph_breaks.specs.Passes.{at_most_infinite as cut_at_infinite};
+ghost use Rattle.paragraph_breaks.specs.Passes.{early_taken, late_taken, rule_over, taken_by};
 
-use crate::broken::{Breaks, Broken};
+use crate::broken::{Breaks, Broken, BrokenRule};
 use crate::pass::{at_most_infinite, breaks_of_pass};
 use break_rule::BreakRule;
 use font_stock::Stock;
 use hlist::HList;
-use hlist_hyph::{copied, hyphenated};
+use hlist_hyph::{copied, hyphenated, is_changed};
 use liang_hyph::Patterns;
 use micro_num::{NoMemory, Params, ShapeLine, Tables};
 use std::alloc::Global;
 
-/// How the first pass breaks a list, where it is tried and taken.
-fn first_breaks(
-    alloc: Global,
-    list: &HList,
-    params: &Params,
-    shape: &[ShapeLine],
-    stock: &Stock,
-) -> Result<Option<Breaks>, NoMemory>
-    requires bounds { IsInBounds list.now }
-    requires own { IsListOf stock.now list.now }
-    requires share { Share params.now stock.now list.now.items }
-    requires hsize { unsigned_abs params.now.hsize < 2 ^ 30 }
-    requires hangindent { unsigned_abs params.now.hangindent < 2 ^ 30 }
-    requires shape { length shape.now < 2 ^ 32 }
-    ensures { IfOk result (λ breaks. option_map taken_by breaks
-        ≡ early_taken list.now.items params.now shape.now stock.now) }
+/// Whether the first pass is left out.
+fn has_no_first_pass(params: &Params) -> bool
+    ensures { result ≡ int_lt params.now.pretolerance (pos 0) }
 {
-    if params.pretolerance < 0 {
-        return Ok(None);
-    }
-    let rule = BreakRule::make(alloc, list, params, shape, stock, false)?;
-    let threshold = at_most_infinite(params.pretolerance);
-    breaks_of_pass(alloc, &rule, threshold, false, 1)
+    params.pretolerance < 0
+}
+
+/// The threshold of the first pass.
+fn first_threshold(rule: &BreakRule) -> i32
+    ensures { result ≡ cut_at_infinite rule.now.params.pretolerance }
+{
+    at_most_infinite(rule.params().pretolerance)
+}
+
+/// The threshold of the second and the third pass.
+fn later_threshold(rule: &BreakRule) -> i32
+    ensures { result ≡ cut_at_infinite rule.now.params.tolerance }
+{
+    at_most_infinite(rule.params().tolerance)
+}
+
+/// Whether the second pass is the last one.
+fn has_no_third_pass(rule: &BreakRule) -> bool
+    ensures { result ≡ int_le rule.now.params.emergencystretch (pos 0) }
+{
+    rule.params().emergencystretch <= 0
+}
+
+/// How the first pass breaks a list, where it is taken.
+fn first_breaks(alloc: Global, rule: &BreakRule) -> Result<Option<Breaks>, NoMemory>
+    requires few { length rule.now.items ≤ 65536 }
+    requires shape { length rule.now.shape < 2 ^ 32 }
+    requires calm { rule.now.emergency ≡ false }
+    requires tried { int_lt rule.now.params.pretolerance (pos 0) ≡ false }
+    ensures { let r = rule.now in IfOk result (λ breaks. option_map taken_by breaks
+        ≡ early_taken r.items r.params r.shape r.stock) }
+{
+    let threshold = first_threshold(rule);
+    breaks_of_pass(alloc, rule, threshold, false, 1)
 }
 
 /// How the third pass breaks, which is always taken.
@@ -56,41 +74,103 @@ fn last_breaks(alloc: Global, rule: &BreakRule, tolerance: i32) -> Result<Breaks
     Ok(breaks.unwrap())
 }
 
-/// How the second pass breaks a hyphenated list, or else the third, for which it keeps what the
+/// How the second pass breaks the list of a rule, or else the third, for which it keeps what the
 /// second knows of the list.
-fn later_breaks(
+fn later_breaks<'a>(alloc: Global, rule: BreakRule<'a>) -> Result<BrokenRule<'a>, NoMemory>
+    requires few { length rule.items ≤ 65536 }
+    requires shape { length rule.shape < 2 ^ 32 }
+    requires calm { rule.emergency ≡ false }
+    ensures rule { IfOk result (λ broken. without_emergency broken.rule ≡ rule.entry) }
+    ensures breaks { let r = rule.entry in IfOk result (λ broken. Some (taken_by broken.breaks)
+        ≡ late_taken r.items r.params r.shape r.stock) }
+{
+    let tolerance = later_threshold(&rule);
+    let last = has_no_third_pass(&rule);
+    match breaks_of_pass(alloc, &rule, tolerance, last, 2)? {
+        Some(breaks) => Ok(BrokenRule { rule, breaks }),
+        None => {
+            let rule = rule.in_emergency();
+            let breaks = last_breaks(alloc, &rule, tolerance)?;
+            Ok(BrokenRule { rule, breaks })
+        }
+    }
+}
+
+/// Breaks a paragraph by the later passes over its hyphenated list, and gives the rule of that,
+/// by which its lines are made. It fails only for want of memory.
+pub fn broken_hyphenated<'a>(
     alloc: Global,
-    list: &HList,
-    params: &Params,
-    shape: &[ShapeLine],
-    stock: &Stock,
-) -> Result<Breaks, NoMemory>
+    list: &'a HList,
+    params: &'a Params,
+    shape: &'a [ShapeLine],
+    stock: &'a Stock,
+) -> Result<BrokenRule<'a>, NoMemory>
     requires bounds { IsInBounds list.now }
     requires own { IsListOf stock.now list.now }
     requires share { Share params.now stock.now list.now.items }
     requires hsize { unsigned_abs params.now.hsize < 2 ^ 30 }
     requires hangindent { unsigned_abs params.now.hangindent < 2 ^ 30 }
     requires shape { length shape.now < 2 ^ 32 }
-    ensures { IfOk result (λ breaks. Some (taken_by breaks)
+    ensures rule { IfOk result (λ broken. without_emergency broken.rule
+        ≡ rule_over list.now.items params.now shape.now stock.now false) }
+    ensures breaks { IfOk result (λ broken. Some (taken_by broken.breaks)
         ≡ late_taken list.now.items params.now shape.now stock.now) }
 {
     let rule = BreakRule::make(alloc, list, params, shape, stock, false)?;
-    let tolerance = at_most_infinite(params.tolerance);
-    let last = params.emergencystretch <= 0;
-    match breaks_of_pass(alloc, &rule, tolerance, last, 2)? {
-        Some(breaks) => Ok(breaks),
-        None => last_breaks(alloc, &rule.in_emergency(), tolerance),
+    later_breaks(alloc, rule)
+}
+
+/// Breaks a paragraph by its list as it stands: by the first pass, or where no word is hyphenated
+/// by the later ones, and gives the rule of the list, by which its lines are made. Where it gives
+/// nothing, the first pass isn't taken, and the hyphenated list is to be broken. It fails only for
+/// want of memory.
+pub fn broken_unhyphenated<'a>(
+    alloc: Global,
+    list: &'a HList,
+    params: &'a Params,
+    shape: &'a [ShapeLine],
+    tables: &Tables,
+    patterns: &Patterns,
+    stock: &'a Stock,
+) -> Result<Option<BrokenRule<'a>>, NoMemory>
+    requires bounds { IsInBounds list.now }
+    requires own { IsListOf stock.now list.now }
+    requires share { Share params.now stock.now list.now.items }
+    requires hsize { unsigned_abs params.now.hsize < 2 ^ 30 }
+    requires hangindent { unsigned_abs params.now.hangindent < 2 ^ 30 }
+    requires shape { length shape.now < 2 ^ 32 }
+    ensures broken { IfOk result (λ found. IfSome found (λ broken. IsBroken (record {
+      items = list.now.items;
+      params = params.now;
+      shape = shape.now;
+      tables = tables.now;
+      places = places_in patterns.now params.now;
+      stock = stock.now;
+    }) (broken_as list.now broken.breaks))) }
+    ensures rule { IfOk result (λ found. IfSome found (λ broken. without_emergency broken.rule
+        ≡ rule_over list.now.items params.now shape.now stock.now false)) }
+    ensures none { IfOk result (λ found. IfNone found
+        (None ≡ early_taken list.now.items params.now shape.now stock.now)) }
+{
+    if has_no_first_pass(params) {
+        if is_changed(alloc, list, params, tables, patterns, stock)? {
+            return Ok(None);
+        }
+        return Ok(Some(broken_hyphenated(alloc, list, params, shape, stock)?));
     }
+    let rule = BreakRule::make(alloc, list, params, shape, stock, false)?;
+    if let Some(breaks) = first_breaks(alloc, &rule)? {
+        return Ok(Some(BrokenRule { rule, breaks }));
+    }
+    if is_changed(alloc, list, params, tables, patterns, stock)? {
+        return Ok(None);
+    }
+    Ok(Some(later_breaks(alloc, rule)?))
 }
 
 /// How a list is broken.
 fn broken(list: HList, breaks: Breaks) -> Broken
-    ensures { result ≡ record {
-      list = list;
-      pass = breaks.pass;
-      breaks = breaks.places;
-      total = breaks.total;
-    } }
+    ensures { result ≡ broken_as list breaks }
 {
     Broken {
         list,
@@ -137,10 +217,10 @@ pub fn breaks(
     ensures own { IfOk result (λ broken. IsListOf stock.now broken.list) }
     ensures share { IfOk result (λ broken. Share params.now stock.now broken.list.items) }
 {
-    if let Some(breaks) = first_breaks(alloc, list, params, shape, stock)? {
-        return Ok(broken(copied(alloc, list)?, breaks));
+    if let Some(found) = broken_unhyphenated(alloc, list, params, shape, tables, patterns, stock)? {
+        return Ok(broken(copied(alloc, list)?, found.breaks));
     }
     let made = hyphenated(alloc, list, params, tables, patterns, stock)?;
-    let breaks = later_breaks(alloc, &made, params, shape, stock)?;
+    let breaks = broken_hyphenated(alloc, &made, params, shape, stock)?.breaks;
     Ok(broken(made, breaks))
 }

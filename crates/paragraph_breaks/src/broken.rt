@@ -1,5 +1,6 @@
 //! What breaking gives.
 
+use break_rule::BreakRule;
 use hlist::HList;
 use items::Items;
 
@@ -20,4 +21,12 @@ pub struct Breaks {
     pub pass: u8,
     pub places: Items<u32>,
     pub total: i64,
+}
+
+/// The same with the rule of the list that was broken, as the pass that is taken has it: the
+/// emergency stretch counts in the third.
+#[derive(Drop)]
+pub struct BrokenRule<'a> {
+    pub rule: BreakRule<'a>,
+    pub breaks: Breaks,
 }

@@ -4,7 +4,8 @@
 //!
 //! [`breaks`] gives the list that was broken, the pass, the places and the total, exactly as
 //! line_break's definition of the pass that is taken has them over these passes. A looseness other
-//! than 0 asks for more or for fewer lines.
+//! than 0 asks for more or for fewer lines. [`broken_unhyphenated`] and
+//! [`broken_hyphenated`] are its two steps for who makes lines of the list: they give its rule.
 #![tactic(auto)]
 
 mod breaking;
@@ -13,5 +14,5 @@ mod loose;
 mod pass;
 mod places;
 
-pub use breaking::breaks;
-pub use broken::Broken;
+pub use breaking::{breaks, broken_hyphenated, broken_unhyphenated};
+pub use broken::{Breaks, Broken, BrokenRule};

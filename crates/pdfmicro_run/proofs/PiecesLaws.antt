@@ -1,12 +1,12 @@
 -- Bytes written in pieces: what was written so far, and what one more piece makes of it.
-use Rattle.std.proofs.Common.{◌≡◌, ℕ, ◌+◌, ◌-◌, ◌^◌, ◌<◌, min, List, [], ◌++◌, length, take, drop, refl, sym, ◌∙◌, ap, arith, append_assoc, append-nil, subst, length-drop}
+use Rattle.std.proofs.Common.{◌≡◌, ℕ, ◌+◌, ◌-◌, ◌^◌, ◌<◌, min, List, [], ◌++◌, length, take, drop, refl, sym, ◌∙◌, ap, arith, append_assoc, length-drop}
 use Rattle.std.proofs.lemmas.List.{take-append-drop}
 use Rattle.std.specs.Io.KnownBytes.{Appends}
 use Rattle.std.proofs.KnownBytes.{Appends-nil, Appends-trans}
 use Rattle.outside_io.specs.Counts.{RisesBy}
 use Rattle.outside_io.specs.Writing.{AppendsPrefix}
 use Rattle.outside_io.specs.States.{SinkState}
-use Rattle.pdfmicro_run.specs.Ran.{pieces, Writes, WritesPart}
+use Rattle.pdfmicro_run.specs.Ran.{pieces, WritesPart}
 
 -- a front was written, in as many calls as it has pieces, and the rest is to come
 pub record Fronts (bytes rest : List ℕ) (old new : SinkState) : Type 0 where
@@ -43,14 +43,6 @@ fronts_more bytes rest piece next n old mid new f some size piece_is next_is app
       counted = omega (arith, f.counted, one_piece (length rest) (length next) some len);
       rises = omega (arith, f.rises, rises);
     }
-
-pub fronts_all : (bytes rest : List ℕ) (old new : SinkState) → Fronts bytes rest old new → rest ≡ [] → Writes bytes old new
-fronts_all bytes rest old new f none =
-    let front : f.front ≡ bytes = sym (append-nil f.front) ∙ ap (λ z. f.front ++ z) (sym none) ∙ f.split in
-    let P : List ℕ → Type 0 = Appends old.written new.written in
-    let Q : ℕ → Type 0 = λ n. RisesBy n old.calls new.calls in
-    let none_left : length rest ≡ 0 = ap length none in
-    (subst P front f.appends, subst Q (omega (arith, f.counted)) f.rises)
 
 pub fronts_part : (bytes rest piece next : List ℕ) (n : ℕ) (old mid new : SinkState) → Fronts bytes rest old mid → 0 < length rest → n ≡ min (length rest) 16384 → piece ≡ take n rest → next ≡ drop n rest → AppendsPrefix mid.written new.written piece → RisesBy 1 mid.calls new.calls → WritesPart bytes old new
 fronts_part bytes rest piece next n old mid new f some size piece_is next_is (part, left, cut, appends) rises =

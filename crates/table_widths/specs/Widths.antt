@@ -2,6 +2,7 @@
 --     touched_of bases seen        the cells of a seat's list, in cell order
 --     Lasting                      what no width changes: the table, and of the seat its number and what it drew
 --     IsNumbered bases cell n      the table has the cell, under this number
+--     HasNumber bases it           a cell and its number are such
 --     HasClaimed, HasPublished     the seat has just claimed a cell, and has just published it
 --     Keeps v w                    what a seat that builds a cell keeps of its view
 --     IsAnswered number cell code last    the last step gave this width, or found the cell held by another seat
@@ -17,6 +18,7 @@ use Rattle.instance_table.specs.declared.view.LastStep.TheVariants.{NoStep, Look
 use Rattle.instance_table.specs.declared.view.View.{View}
 use Rattle.instance_table.specs.Places.{cell_count, cell_of_number}
 use Rattle.instance_table.specs.Seats.{Standing, Sitting, IsSeatOf}
+use Rattle.table_widths.specs.declared.numbered.Numbered.{Numbered}
 
 -- the cells that a seat found not empty, or claimed, in cell order and without repeats
 abbrev pub touched_of : List BaseFont → List ℕ → List Cell
@@ -40,6 +42,9 @@ pub record IsNumbered (bases : List BaseFont) (cell : Cell) (n : ℕ) : Type 0 w
   pub within : n < cell_count bases
   pub cell_is : cell_of_number bases n ≡ cell
   pub number_is : number_of bases cell ≡ Some n
+
+abbrev pub HasNumber : List BaseFont → Numbered → Type 0
+HasNumber bases it = IsNumbered bases it.cell it.number
 
 -- by its last step, which found the cell empty, and none of its widths is stored
 pub record HasClaimed (v : View) (n : ℕ) : Type 0 where

@@ -9,6 +9,7 @@
 //! Breaking, packing and the threads are left to the crates above.
 #![tactic(auto)]
 
+mod numbered;
 mod source;
 mod worker;
 

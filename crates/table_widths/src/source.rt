@@ -1,10 +1,13 @@
 //! The source of widths over a table.
-ghost use Rattle.std.specs.Prelude.{◌≡◌, ◌<◌, ◌∷◌, ℕ, Some, None};
+ghost use Rattle.std.specs.Prelude.{◌≡◌, ◌<◌, ◌∷◌, ℕ, Some, None, IfSome};
+ghost use Rattle.std.proofs.Props.{props};
 ghost use Rattle.instance_core.specs.Cells.{IsCellOf, number_of, in_cell_order};
 ghost use Rattle.instance_core.specs.Instances.{instance_width};
 ghost use Rattle.instance_table.specs.Seats.{IsSeatOf};
-ghost use Rattle.table_widths.specs.Widths.{IsIdle, IsAnswered, touched_of, lasting_of};
+ghost use Rattle.table_widths.specs.Widths.{IsIdle, IsNumbered, IsAnswered, HasNumber};
+ghost use Rattle.table_widths.specs.Widths.{touched_of, lasting_of};
 
+use crate::numbered::Numbered;
 use crate::worker::Worker;
 use instance_core::{Cell, WidthSource};
 use instance_table::{InstanceTable, Seat};
@@ -31,12 +34,15 @@ impl Model for Fixed {
 /// The widths of instances over a table, for one worker. It owns the worker's seat, which builds
 /// nothing between two calls.
 ///
-/// The cells asked are those that the seat has seen: found not empty, or claimed.
+/// The cells asked are those that the seat has seen: found not empty, or claimed. The number of the
+/// cell asked last is kept, since most glyphs of a line are in the cell of the one before.
 #[derive(Drop)]
 pub struct TableWidths<'a, G> {
     worker: Worker<'a, G>,
     seat: Seat,
+    last: Option<Numbered>,
     pub ghost idle: { IsIdle worker.table.now seat },
+    pub ghost numbered: { IfSome last (HasNumber worker.table.now.bases) } by { Prim.hlevel props },
 }
 
 impl<'a, G: Gate> TableWidths<'a, G> {
@@ -58,7 +64,11 @@ impl<'a, G: Gate> TableWidths<'a, G> {
             gate,
             number: worker,
         };
-        TableWidths { worker, seat }
+        TableWidths {
+            worker,
+            seat,
+            last: None,
+        }
     }
 
     /// The seat, as the last width left it.
@@ -68,6 +78,23 @@ impl<'a, G: Gate> TableWidths<'a, G> {
         ensures free { result.view.building ≡ None }
     {
         self.seat
+    }
+
+    /// The number of a cell that the table has.
+    fn number_of(&mut self, cell: Cell) -> u32
+        requires { IsCellOf self.old.worker.table.now.bases cell }
+        ensures number { IsNumbered self.old.worker.table.now.bases cell result }
+        ensures worker { self.new.worker ≡ self.old.worker }
+        ensures seat { self.new.seat ≡ self.old.seat }
+    {
+        if let Some(last) = self.last {
+            if last.cell == cell {
+                return last.number;
+            }
+        }
+        let number = self.worker.number_of(cell);
+        self.last = Some(Numbered { cell, number });
+        number
     }
 }
 
@@ -102,7 +129,7 @@ impl<'a, G: Gate> WidthSource for TableWidths<'a, G> {
         ensures last { (number : ℕ) → number_of self.old.worker.table.now.bases cell ≡ Some number
             → IsAnswered self.old.seat.view.number number code self.new.seat.view.last }
     {
-        let number = self.worker.number_of(cell);
+        let number = self.number_of(cell);
         self.worker.width(&mut self.seat, cell, number, code)
     }
 

@@ -31,19 +31,30 @@ pub fn with_words(
     Ok(edited)
 }
 
+/// Half a design size, as a fix_word.
+pub const HALF: u32 = 524288;
+
 /// The seven parameters of the test fonts.
 const PARAMS: [u32; 7] = [0, 262144, 131072, 65536, 524288, 1048576, 0];
 
-/// A font of the codes 33 to 126, half a design size of 10pt wide and high, with these ligature
-/// words, the program of a code being at the first of them.
-fn printed_font(alloc: Global, programmed: u32, ligatures: &[u32]) -> Result<Vec<u8>, AllocError> {
-    let count = (ligatures.len() % 100) as u32;
+/// A font of the codes 33 to 126 and a design size of 10pt, each character of this width and half
+/// the size high, with these ligature words and kerns, the program of a code being at the first of
+/// the words.
+fn printed_font(
+    alloc: Global,
+    width: u32,
+    programmed: u32,
+    ligatures: &[u32],
+    kerns: &[u32],
+) -> Result<Vec<u8>, AllocError> {
+    let steps = (ligatures.len() % 100) as u32;
+    let kept = (kerns.len() % 100) as u32;
     let mut words = vec![in alloc;
-        (115 + count) << 16 | 2,
+        (115 + steps + kept) << 16 | 2,
         33 << 16 | 126,
         2 << 16 | 2,
         1 << 16 | 1,
-        count << 16,
+        steps << 16 | kept,
         7,
         0,
         10485760,
@@ -55,25 +66,31 @@ fn printed_font(alloc: Global, programmed: u32, ligatures: &[u32]) -> Result<Vec
             0x01100000
         })?;
     }
-    words.extend_from_slice(&[0, 524288, 0, 524288, 0, 0])?;
+    words.extend_from_slice(&[0, width, 0, HALF, 0, 0])?;
     words.extend_from_slice(ligatures)?;
+    words.extend_from_slice(kerns)?;
     words.extend_from_slice(&PARAMS)?;
     bytes_of(alloc, words.as_slice())
 }
 
-/// A font with no ligatures or kerns.
+/// A font with no ligatures or kerns, whose characters are half a design size wide.
 pub fn tiny10(alloc: Global) -> Result<Vec<u8>, AllocError> {
-    printed_font(alloc, 0, &[])
+    printed_font(alloc, HALF, 0, &[], &[])
 }
 
-/// The same with one ligature word that no program reaches, a `!` between two `!`.
+/// The same with characters of this width, and one kern.
+pub fn kerned10(alloc: Global, width: u32, kern: u32) -> Result<Vec<u8>, AllocError> {
+    printed_font(alloc, width, 0, &[], &[kern])
+}
+
+/// The font `tiny10` with one ligature word that no program reaches, a `!` between two `!`.
 pub fn ligature10(alloc: Global) -> Result<Vec<u8>, AllocError> {
-    printed_font(alloc, 0, &[0x80210021])
+    printed_font(alloc, HALF, 0, &[0x80210021], &[])
 }
 
 /// The same with a program of x that never ends.
 pub fn loop10(alloc: Global) -> Result<Vec<u8>, AllocError> {
-    printed_font(alloc, 120, &[0x80780278])
+    printed_font(alloc, HALF, 120, &[0x80780278], &[])
 }
 
 /// The char_info word of a code of `lig10`.

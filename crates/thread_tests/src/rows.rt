@@ -3,9 +3,9 @@
 ghost use Rattle.std.specs.Prelude.{◌≡◌, ◌≤◌, length};
 ghost use Rattle.job_text.specs.Fits.{JobFits};
 
-use crate::{Document, read_document, set_document};
+use crate::set_document;
 use hlist_build::ParFault;
-use instance_core::{Cell, Packed};
+use instance_core::{Cell, Owner, Packed, Page};
 use outside_io::NoGate;
 use para_threads::set_all;
 use para_workers::{ParAt, SetFault};
@@ -13,30 +13,7 @@ use std::alloc::Global;
 use std::test::*;
 use std::thread::Threads;
 use test_fonts::tiny10;
-
-const WIDE: &[u8] = b"\\font\\f=tiny10 \\f
-\\hsize=24pt \\pdffontexpand\\f 20 20 1 \\pdfadjustspacing=2
-\\noindent aa bb cc dd
-";
-
-const NARROW_AND_WIDE: &[u8] = b"\\font\\f=tiny10 \\f
-\\hsize=22pt \\pdffontexpand\\f 20 20 1 \\pdfadjustspacing=2
-\\noindent aa bb cc dd
-
-\\hsize=24pt \\noindent aa bb cc dd
-";
-
-const FAULTS: &[u8] = b"\\font\\f=tiny10 \\f
-a
-
-\\char200 a
-
-a
-
-a
-
-\\char200
-";
+use test_jobs::{Document, EXPANDED, NARROW_AND_WIDE, TWO_FAULTS, read_document};
 
 /// A step of the first font.
 fn cell(step: i32) -> Cell {
@@ -52,13 +29,34 @@ fn has_glyphs(line: &Packed, cell: Cell, advance: i32, places: &[i32]) -> bool {
         })
 }
 
-/// The expanded paragraph has the same page, file and owner by so many workers.
-fn wide_is_right<R: Threads + Sync>(
+/// The page is that of the expanded paragraph.
+fn is_wide_page(page: &Page) -> bool {
+    let [first, second] = page.lines.as_slice() else {
+        return false;
+    };
+    (first.baseline, second.baseline) == (327680, 1114112)
+        && has_glyphs(&first.line, cell(20), 334233, &[0, 334233, 904398, 1238631])
+        && has_glyphs(&second.line, cell(0), 327680, &[0, 327680, 819200, 1146880])
+}
+
+/// The owners are those of these instances, each built by one of so many workers.
+fn are_owners(owners: &[Owner], cells: &[Cell], workers: u32) -> bool {
+    owners.len() == cells.len()
+        && owners.iter().zip(cells).all(|(owner, cell)| {
+            owner.cell == *cell && owner.worker >= 1 && owner.worker <= workers
+        })
+}
+
+/// By so many workers a document has these fonts by first use, of which these are built, each once,
+/// and the file that one worker gives.
+fn is_right<R: Threads + Sync>(
     rt: &R,
     alloc: Global,
     document: &Document,
     workers: u32,
-) -> Result<(), Fail>
+    numbered: &[Cell],
+    built: &[Cell],
+) -> anyhow::Result<bool>
     requires fits { JobFits document.now.job }
     requires fonts { length document.now.stock ≡ length document.now.job.fonts }
     requires some { 1 ≤ workers }
@@ -66,36 +64,59 @@ fn wide_is_right<R: Threads + Sync>(
 {
     let one = set_document(rt, alloc, document, 1, &NoGate)?;
     let set = set_document(rt, alloc, document, workers, &NoGate)?;
-    let [page] = set.pages.as_slice() else {
-        return Err(Fail::new(format_args!("{} pages", set.pages.len())));
-    };
-    let [first, second] = page.lines.as_slice() else {
-        return Err(Fail::new(format_args!("{} lines", page.lines.len())));
-    };
-    let is_right = (first.baseline, second.baseline) == (327680, 1114112)
-        && has_glyphs(&first.line, cell(20), 334233, &[0, 334233, 904398, 1238631])
-        && has_glyphs(&second.line, cell(0), 327680, &[0, 327680, 819200, 1146880])
-        && set.written.numbering.cells() == [cell(20), cell(0)].as_slice()
-        && set.written.bytes.len() == 240
-        && set.written.bytes.as_slice() == one.written.bytes.as_slice();
-    let [owner] = set.closed.owners() else {
-        return Err(Fail::new(format_args!("{} owners", set.closed.owners().len())));
-    };
-    if is_right && owner.cell == cell(20) && owner.worker >= 1 && owner.worker <= workers {
-        Ok(())
-    } else {
-        Err(Fail::new(format_args!("by {workers} workers")))
-    }
+    Ok(
+        set.written.numbering.cells() == numbered
+            && are_owners(set.closed.owners(), built, workers)
+            && set.closed.seats() == workers + 1
+            && set.written.bytes.as_slice() == one.written.bytes.as_slice(),
+    )
+}
+
+/// By so many workers the expanded paragraph has its page and a file of its length.
+fn is_wide<R: Threads + Sync>(
+    rt: &R,
+    alloc: Global,
+    document: &Document,
+    workers: u32,
+) -> anyhow::Result<bool>
+    requires fits { JobFits document.now.job }
+    requires fonts { length document.now.stock ≡ length document.now.job.fonts }
+    requires some { 1 ≤ workers }
+    requires few { workers ≤ 64 }
+{
+    let set = set_document(rt, alloc, document, workers, &NoGate)?;
+    let pages = set.pages.as_slice();
+    Ok(
+        pages.len() == 1
+            && pages.iter().all(|page| is_wide_page(page))
+            && set.written.bytes.len() == 240,
+    )
 }
 
 #[test]
-fn a_paragraph_is_set_the_same_by_any_number_of_workers(rt: HostRuntime) -> Result<(), Fail> {
+fn an_expanded_paragraph_has_one_page_by_any_number_of_workers(
+    rt: HostRuntime,
+) -> Result<(), Fail> {
     let alloc = rt.alloc();
-    let document = read_document(alloc, WIDE, &tiny10(alloc)?)?;
-    wide_is_right(&rt, alloc, &document, 1)?;
-    wide_is_right(&rt, alloc, &document, 2)?;
-    wide_is_right(&rt, alloc, &document, 7)?;
-    wide_is_right(&rt, alloc, &document, 64)?;
+    let document = read_document(alloc, EXPANDED, &tiny10(alloc)?)?;
+    assert!(rt; is_wide(&rt, alloc, &document, 1)?);
+    assert!(rt; is_wide(&rt, alloc, &document, 2)?);
+    assert!(rt; is_wide(&rt, alloc, &document, 7)?);
+    assert!(rt; is_wide(&rt, alloc, &document, 64)?);
+    Ok(())
+}
+
+#[test]
+fn an_expanded_paragraph_has_one_file_by_any_number_of_workers(
+    rt: HostRuntime,
+) -> Result<(), Fail> {
+    let alloc = rt.alloc();
+    let document = read_document(alloc, EXPANDED, &tiny10(alloc)?)?;
+    let cells = [cell(20), cell(0)];
+    assert!(rt; is_right(&rt, alloc, &document, 1, &cells, &[cell(20)])?);
+    assert!(rt; is_right(&rt, alloc, &document, 2, &cells, &[cell(20)])?);
+    assert!(rt; is_right(&rt, alloc, &document, 7, &cells, &[cell(20)])?);
+    assert!(rt; is_right(&rt, alloc, &document, 64, &cells, &[cell(20)])?);
     Ok(())
 }
 
@@ -103,32 +124,18 @@ fn a_paragraph_is_set_the_same_by_any_number_of_workers(rt: HostRuntime) -> Resu
 fn fonts_are_numbered_by_first_use_whoever_builds_them(rt: HostRuntime) -> Result<(), Fail> {
     let alloc = rt.alloc();
     let document = read_document(alloc, NARROW_AND_WIDE, &tiny10(alloc)?)?;
-    let one = set_document(&rt, alloc, &document, 1, &NoGate)?;
-    let two = set_document(&rt, alloc, &document, 2, &NoGate)?;
-    let seven = set_document(&rt, alloc, &document, 7, &NoGate)?;
-    let most = set_document(&rt, alloc, &document, 64, &NoGate)?;
-    assert_eq!(rt;
-        two.written.numbering.cells(),
-        [cell(-20), cell(20), cell(0)].as_slice()
-    );
-    assert_eq!(rt; two.written.bytes.as_slice(), one.written.bytes.as_slice());
-    assert_eq!(rt;
-        seven.written.bytes.as_slice(),
-        one.written.bytes.as_slice()
-    );
-    assert_eq!(rt; most.written.bytes.as_slice(), one.written.bytes.as_slice());
-    let [narrow, wide] = two.closed.owners() else {
-        return Err(Fail::new(format_args!("{} owners", two.closed.owners().len())));
-    };
-    assert_eq!(rt; (narrow.cell, wide.cell), (cell(-20), cell(20)));
-    assert_eq!(rt; two.closed.seats(), 3);
+    let cells = [cell(-20), cell(20), cell(0)];
+    assert!(rt; is_right(&rt, alloc, &document, 1, &cells, &[cell(-20), cell(20)])?);
+    assert!(rt; is_right(&rt, alloc, &document, 2, &cells, &[cell(-20), cell(20)])?);
+    assert!(rt; is_right(&rt, alloc, &document, 7, &cells, &[cell(-20), cell(20)])?);
+    assert!(rt; is_right(&rt, alloc, &document, 64, &cells, &[cell(-20), cell(20)])?);
     Ok(())
 }
 
 #[test]
 fn the_first_paragraph_with_a_fault_is_told(rt: HostRuntime) -> Result<(), Fail> {
     let alloc = rt.alloc();
-    let document = read_document(alloc, FAULTS, &tiny10(alloc)?)?;
+    let document = read_document(alloc, TWO_FAULTS, &tiny10(alloc)?)?;
     let at = ParAt {
         paragraph: 2,
         fault: ParFault::MissingChar { offset: 21 },

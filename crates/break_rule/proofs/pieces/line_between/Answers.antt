@@ -21,7 +21,7 @@ pub returns-clause-exact : goal.returns-clause-exact
 unfolding pieces_between
 returns-clause-exact c =
     with-moves _ _ _ _ _ _ _ _
-    (chained _ _ _ _ _ _ _ _ _ _ _ _ _ _ _ c.new-pieces.ensures c.in_ok-push.ensures.ok c.in_ok-push-2.ensures.ok
+    (chained _ _ _ _ _ _ _ _ _ _ _ _ _ _ _ (c.from_vec-pieces.ensures ∙ c.in_ok-with_capacity.ensures.items) c.in_ok-push.ensures.ok c.in_ok-push-2.ensures.ok
     c.in_ok-push_subs.ensures.exact c.in_ok-push_items.ensures.exact c.in_ok-push_subs-2.ensures.exact c.in_ok-push-3.ensures.ok c.in_ok-push-4.ensures.ok)
     (c.moved.ensures.exact ∙ ap (λ (h : ℤ). Move (moved c.args.params.now h)) (to_z-of_z w64 c.args.hangs.left (search rules)))
     (c.moved-2.ensures.exact ∙ ap (λ (h : ℤ). Move (moved c.args.params.now h)) (to_z-of_z w64 c.args.hangs.right (search rules)))

@@ -1,10 +1,9 @@
-use Rattle.std.proofs.Common.{◌≡◌, ◌≢◌, ◌<◌, ◌≤◌, ◌+◌, ◌-◌, ◌∷◌, ◌++◌, ℕ, List, length, take, drop, get_or, refl, sym, ap, ◌∙◌, subst, arith}
+use Rattle.std.proofs.Common.{◌≡◌, ◌≢◌, ◌<◌, ◌≤◌, ◌+◌, ◌-◌, ℕ, List, length, drop, get_or, sym, ap, ◌∙◌, subst, arith}
 use Rattle.std.specs.List.{All, fold}
 use Rattle.std.proofs.lemmas.List.{drop_all}
 use Rattle.std.specs.declared.cmp.Ordering.TheVariants.{Less}
-use Rattle.line_break.specs.Pass.{Pass, order}
+use Rattle.line_break.specs.Pass.{order}
 use Rattle.line_break.specs.Sweep.{put}
-use Rattle.break_sweep.specs.declared.made.Made.{Made}
 use Rattle.break_sweep.specs.Made.{listed, ways_of, no_made}
 use Rattle.break_sweep.proofs.NodeWays.{ways_length}
 use Rattle.break_sweep.proofs.PutLines.{all_inserted}

@@ -1,5 +1,4 @@
 use Rattle.std.proofs.Common.{◌≡◌}
-use Rattle.break_sweep.specs.declared.made.Made.{Made}
 use Rattle.break_sweep.proofs.PutLines.{AreLower}
 use Rattle.break_sweep.proofs.putting.put_line.Given as goal
 

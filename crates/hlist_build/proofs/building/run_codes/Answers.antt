@@ -1,6 +1,6 @@
 -- One more code of the run is in the list, or the run ends.
 use Rattle.std.proofs.Common.{[], ◌∷◌, arith, rules}
-use Rattle.hlist_build.proofs.GlyphLemmas.{longer, whole}
+use Rattle.hlist_runs.proofs.GlyphLemmas.{longer, whole}
 use Rattle.hlist_build.proofs.PartLemmas.{run_codes-turn, run_codes-stop, run_codes-end, not_char}
 use Rattle.hlist_build.proofs.building.run_codes.Goals as goal
 

@@ -1,7 +1,8 @@
 -- One more glyph of the run is in the list.
 use Rattle.std.proofs.Common.{arith}
 use Rattle.lig_kern.specs.declared.glyph.Glyph.TheVariants.{Char}
-use Rattle.hlist_build.proofs.GlyphLemmas.{run_items-turn, run_items-end, longer, whole}
+use Rattle.hlist_runs.proofs.GlyphLemmas.{longer, whole}
+use Rattle.hlist_build.proofs.GlyphLemmas.{run_items-turn, run_items-end}
 use Rattle.hlist_build.proofs.glyphs.push_glyphs.Goals as goal
 
 pub loop-glyph-preserved : goal.loop-glyph-preserved

@@ -1,6 +1,7 @@
 -- One more character of the run is in the list.
 use Rattle.std.proofs.Common.{arith}
-use Rattle.hlist_build.proofs.GlyphLemmas.{plain-turn, plain-end, longer, whole}
+use Rattle.hlist_runs.proofs.GlyphLemmas.{longer, whole}
+use Rattle.hlist_build.proofs.GlyphLemmas.{plain-turn, plain-end}
 use Rattle.hlist_build.proofs.glyphs.push_plain.Goals as goal
 
 pub loop-code-preserved : goal.loop-code-preserved

@@ -1,7 +1,7 @@
 -- A list that has glyphs gives them.
 use Rattle.std.proofs.Common.{inl, inr, refl}
 use Rattle.lig_kern.specs.Covering.{Lawful}
-use Rattle.hlist_build.proofs.GlyphLemmas.{cuts-within}
+use Rattle.hlist_runs.proofs.GlyphLemmas.{cuts-within}
 use Rattle.hlist_build.proofs.RunLemmas.{list-ok, list-err}
 use Rattle.hlist_build.proofs.runs.list_of.Goals as goal
 

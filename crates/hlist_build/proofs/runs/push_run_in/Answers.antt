@@ -1,6 +1,6 @@
 -- A run that has glyphs gives their items.
 use Rattle.lig_kern.specs.Covering.{Lawful}
-use Rattle.hlist_build.proofs.GlyphLemmas.{cuts-within}
+use Rattle.hlist_runs.proofs.GlyphLemmas.{cuts-within}
 use Rattle.hlist_build.proofs.runs.push_run_in.Goals as goal
 
 pub push_glyphs-requires : goal.push_glyphs-requires

@@ -1,26 +1,23 @@
-use Rattle.std.proofs.Common.{ap, ◌∙◌, arith}
-use Rattle.std.specs.Prelude.{is_some, not}
-use Rattle.micro_num.specs.declared.part.Part.TheVariants.{Char as char_part, Space as space_part}
+use Rattle.std.proofs.Common.{◌≡◌, ◌+◌, List, length, sym, ap, ◌∙◌, subst, length-append, arith}
+use Rattle.std.specs.Prelude.{not}
+use Rattle.job_reading.specs.declared.token.Token.{Token}
+use Rattle.job_reading.specs.Lexemes.{ends_paragraph}
+use Rattle.job_reading.specs.Repeats.{GoesOn}
+use Rattle.job_reading.specs.PlainTokens.{plain_tokens}
+use Rattle.job_reading.specs.Rest.{left}
 use Rattle.job_text.specs.declared.setting.Setting.{Setting}
-use Rattle.job_text.proofs.PlainText.{plain_part, plain_goes}
+use Rattle.job_text.specs.Parts.{part}
+use Rattle.job_text.proofs.PlainText.{text_goes}
 use Rattle.job_text.proofs.paragraph.plain_parts.Goals as goal
 
-pub loop-token-preserved-in_ok-add-in-Char : goal.loop-token-preserved-in_ok-add-in-Char
-loop-token-preserved-in_ok-add-in-Char c =
-    let added = c.in_ok-add-in-Char.ensures in
-    let current = c.loop-token.invariant.current in
-    record {
-      value = λ bytes names whole on. plain_goes bytes names whole _ _ _ _ c.in-Some.token (char_part c.in-Char.code) (c.loop-token.invariant.value bytes names whole on) c.in-Some.ensures.0 (ap plain_part c.in-Char.is) (ap is_some current ∙ c.is_none.ensures ∙ ap not c.if-is_none.false) added;
-      within = omega (arith, c.in-Some.ensures.1, c.loop-token.invariant.within);
-      current = ap (λ (s : Setting). s.current) added ∙ current;
-    }
+pub returns-clause-value : goal.returns-clause-value
+returns-clause-value c = λ bytes names whole on.
+    subst (λ (s : Setting). GoesOn ends_paragraph (part bytes names) s (left c.plain_text.result.1) whole) (sym c.in_ok-add_plain.ensures)
+    (text_goes bytes names whole _ _ _ _ _ (subst (λ (toks : List Token). GoesOn ends_paragraph (part bytes names) c.args.setting.now toks whole) c.plain_text.ensures.value on) (c.is_none.ensures ∙ ap not c.if-is_none.false))
 
-pub loop-token-preserved : goal.loop-token-preserved
-loop-token-preserved c =
-    let added = c.in_ok-add-in-Space.ensures in
-    let current = c.loop-token.invariant.current in
-    record {
-      value = λ bytes names whole on. plain_goes bytes names whole _ _ _ _ c.in-Some.token space_part (c.loop-token.invariant.value bytes names whole on) c.in-Some.ensures.0 (ap plain_part c.in-Space.is) (ap is_some current ∙ c.is_none.ensures ∙ ap not c.if-is_none.false) added;
-      within = omega (arith, c.in-Some.ensures.1, c.loop-token.invariant.within);
-      current = ap (λ (s : Setting). s.current) added ∙ current;
-    }
+pub returns-clause-within : goal.returns-clause-within
+returns-clause-within c =
+    let text : List Token = plain_tokens c.plain_text.result.0.bytes.now c.plain_text.result.0.from c.plain_text.result.0.count in
+    let behind : List Token = left c.plain_text.result.1 in
+    let total : length (left c.args.rest) ≡ length text + length behind = ap length c.plain_text.ensures.value ∙ length-append text behind in
+    omega (arith, total)

@@ -49,3 +49,9 @@ pub returns-clause-owners : goal.returns-clause-owners
 returns-clause-owners g c =
     owned-by c.in_ok-table.table c.crew.new.first.view c.in-Ok.closed c.args.workers c.in-Ok.ensures.closes
     c.in_ok-slots.ensures.gathered.claims c.in_ok-slots.ensures.made
+
+pub returns-clause-bases : goal.returns-clause-bases
+returns-clause-bases g c = c.in-Ok.ensures.closes.bases ∙ c.in_ok-table.ensures.table.0 ∙ c.in_ok-bases.ensures
+
+pub returns-clause-seats : goal.returns-clause-seats
+returns-clause-seats g c = c.in-Ok.ensures.closes.seats ∙ c.in_ok-slots.ensures.made

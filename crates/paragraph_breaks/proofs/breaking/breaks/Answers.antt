@@ -1,4 +1,6 @@
-use Rattle.std.proofs.Common.{◌≡◌, ◌∙◌, ap, sym, subst, option_map}
+-- The list is copied where it is broken as it stands.
+use Rattle.std.proofs.Common.{◌≡◌, sym, subst, Option, None, Some}
+use Rattle.std.specs.Prelude.{IfNone, IfSome}
 use Rattle.hlist.specs.Bounds.{IsInBounds}
 use Rattle.hlist.specs.declared.item.HList.{HList}
 use Rattle.hlist.proofs.CountLemmas.{small-in_bounds}
@@ -7,14 +9,15 @@ use Rattle.hlist_hyph.proofs.OwnLemmas.{items-below}
 use Rattle.list_fonts.proofs.AlikeLaws.{same_fonts_share}
 use Rattle.break_rule.specs.Over.{Share}
 use Rattle.paragraph_breaks.specs.declared.broken.Broken.{Broken}
-use Rattle.paragraph_breaks.specs.Outcome.{IsBroken}
-use Rattle.paragraph_breaks.specs.Passes.{Paragraph, taken_by}
-use Rattle.paragraph_breaks.proofs.BrokenLists.{early_broken, late_broken}
+use Rattle.paragraph_breaks.specs.declared.broken.BrokenRule.{BrokenRule}
+use Rattle.paragraph_breaks.specs.Outcome.{IsBroken, broken_as}
+use Rattle.paragraph_breaks.specs.Passes.{Paragraph, early_taken}
+use Rattle.paragraph_breaks.proofs.BrokenLists.{late_broken}
 use Rattle.paragraph_breaks.proofs.TakenPasses.{none_of}
 use Rattle.paragraph_breaks.proofs.breaking.breaks.Goals as goal
 
-pub first_breaks-requires-clause-bounds : goal.first_breaks-requires-clause-bounds
-first_breaks-requires-clause-bounds c = small-in_bounds c.args.list.now c.requires.small
+pub broken_unhyphenated-requires-clause-bounds : goal.broken_unhyphenated-requires-clause-bounds
+broken_unhyphenated-requires-clause-bounds c = small-in_bounds c.args.list.now c.requires.small
 
 pub returns-in-Some-clause-broken : goal.returns-in-Some-clause-broken
 returns-in-Some-clause-broken c =
@@ -28,9 +31,9 @@ returns-in-Some-clause-broken c =
       stock = c.args.stock.now;
     } in
     let copied : c.in_ok-copied.field-0 ≡ c.args.list.now = c.in_ok-copied.ensures in
-    subst (IsBroken p) (sym c.broken.ensures)
-    (early_broken p c.in_ok-copied.field-0 c.in-Some.breaks (ap (λ (l : HList). l.items) copied)
-    (sym (ap (option_map taken_by) c.in-Some.is) ∙ c.in_ok-breaks.ensures))
+    let found : IfSome (Some c.in-Some.found) (λ broken. IsBroken p (broken_as c.args.list.now broken.breaks)) =
+    subst (λ (f : Option BrokenRule). IfSome f (λ broken. IsBroken p (broken_as c.args.list.now broken.breaks))) c.in-Some.is c.in_ok-found.ensures.broken in
+    subst (IsBroken p) (sym c.broken.ensures) (subst (λ (l : HList). IsBroken p (broken_as l c.in-Some.found.breaks)) (sym copied) found)
 
 pub returns-in-Some-clause-bounds : goal.returns-in-Some-clause-bounds
 returns-in-Some-clause-bounds c =
@@ -47,8 +50,8 @@ returns-in-Some-clause-share c =
 pub hyphenated-requires-clause-fonts : goal.hyphenated-requires-clause-fonts
 hyphenated-requires-clause-fonts c = items-below c.args.stock.now c.args.list.now.items c.requires.own
 
-pub later_breaks-requires-clause-share : goal.later_breaks-requires-clause-share
-later_breaks-requires-clause-share c =
+pub broken_hyphenated-requires-clause-share : goal.broken_hyphenated-requires-clause-share
+broken_hyphenated-requires-clause-share c =
     same_fonts_share c.args.params.now c.args.stock.now c.args.list.now.items c.in_ok-made.made.items c.in_ok-made.ensures.fonts c.requires.share
 
 pub returns-clause-broken : goal.returns-clause-broken
@@ -62,10 +65,11 @@ returns-clause-broken c =
       places = places_in c.args.patterns.now c.args.params.now;
       stock = c.args.stock.now;
     } in
+    let none : None ≡ early_taken p.items p.params p.shape p.stock =
+    subst (λ (found : Option BrokenRule). IfNone found (None ≡ early_taken p.items p.params p.shape p.stock))
+    (none_of c.in_ok-found.field-0 c.in_default.not-Some) c.in_ok-found.ensures.none in
     subst (IsBroken p) (sym c.broken-2.ensures)
-    (late_broken p c.in_ok-made.made c.in_ok-breaks-2.breaks c.in_ok-made.ensures.exact
-    (sym (ap (option_map taken_by) (none_of c.in_ok-breaks.field-0 c.in_default.not-Some)) ∙ c.in_ok-breaks.ensures)
-    c.in_ok-breaks-2.ensures)
+    (late_broken p c.in_ok-made.made c.in_ok-breaks.field-0.breaks c.in_ok-made.ensures.exact none c.in_ok-breaks.ensures.breaks)
 
 pub returns-clause-share : goal.returns-clause-share
 returns-clause-share c =

@@ -1,4 +1,4 @@
-use Rattle.std.proofs.Common.{◌≡◌, ◌+◌, ◌<◌, ◌++◌, ℕ, suc, true, List, length, map, filter, refl, sym, ap, ◌∙◌, subst, add-one, arith}
+use Rattle.std.proofs.Common.{◌≡◌, ◌+◌, ◌<◌, ◌++◌, suc, true, List, length, map, filter, sym, ap, ◌∙◌, subst, add-one, arith}
 use Rattle.std.specs.List.{All}
 use Rattle.line_break.specs.declared.node.Way.{Way}
 use Rattle.line_break.specs.Sweep.{active, kept, tried}

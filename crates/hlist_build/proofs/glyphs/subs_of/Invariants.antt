@@ -1,9 +1,0 @@
-use Rattle.std.proofs.Common.{◌≡◌, ◌++◌, drop}
-use Rattle.std.specs.Prelude.{None}
-use Rattle.hlist_build.specs.Runs.{subs_of}
-use Rattle.hlist_build.proofs.glyphs.subs_of.Given as goal
-
-abbrev pub invariant-loop-glyph : goal.invariant-loop-glyph
-invariant-loop-glyph l =
-    l.subs ++ subs_of l.number l.font.size l.codes l.before (drop l.glyph-index l.glyphs)
-    ≡ subs_of l.number l.font.size l.codes None l.glyphs
